@@ -1,0 +1,4 @@
+pub mod Sites
+pub mod Numbered
+pub mod Chains
+pub mod Leaves

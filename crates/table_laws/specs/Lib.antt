@@ -1,0 +1,3 @@
+pub mod Sites
+pub mod Chains
+pub mod Worked
