@@ -8,8 +8,9 @@ use native.Mathlib.Omega.{arith}
 use lib.Dec.{ltb, eqb}
 use lib.ListN.{getD, length}
 use Rattle.std.proofs.shelf.Lists.{getD-past}
+use Rattle.std.specs.Orderings.{Decides}
 use Rattle.std.proofs.shelf.Tests.{cases-eq, eqb-true}
-use Rattle.languages.specs.Types.{parent-of, caught-within, caught-in, Catches, itself, ancestor, Tree-law}
+use Rattle.languages.specs.Types.{parent-of, caught-within, caught-in, Catches, itself, ancestor}
 
 module _ (parents : List ℕ) where
   parent-none : parent-of parents 0 ≡ 0
@@ -80,6 +81,7 @@ module _ (parents : List ℕ) where
       go (inl e) q = caught-self c t e
       go (inr n) q = caught-up c t n (λ e. omega arith) ∙ q
 
-pub tree-law : Tree-law
+-- the test decides the relation
+pub decides : (parents : List ℕ) (catch thrown : ℕ) → Decides (caught-in parents catch thrown) (Catches parents catch thrown)
 unfolding caught-in
-tree-law parents catch thrown = (sound parents thrown catch thrown, complete parents catch thrown)
+decides parents catch thrown = (sound parents thrown catch thrown, complete parents catch thrown)

@@ -4,7 +4,6 @@ use mathlib.Core.List.{List}
 use mathlib.Core.Bool.{Bool, true, false}
 use lib.Dec.{ltb, eqb}
 use lib.ListN.{getD}
-use Rattle.std.specs.Orderings.{Decides}
 
 -- "GNUCC++" and a zero byte; "LOOMPICK"
 abbrev pub tree-class : ℕ
@@ -35,7 +34,3 @@ caught-within (suc k) parents catch thrown =
 -- a parent is below its type, so that a type has fewer ancestors than its number
 unfoldable pub caught-in : List ℕ → ℕ → ℕ → Bool
 caught-in parents catch thrown = caught-within thrown parents catch thrown
-
--- the test decides the relation
-abbrev pub Tree-law : Type 0
-Tree-law = (parents : List ℕ) (catch thrown : ℕ) → Decides (caught-in parents catch thrown) (Catches parents catch thrown)

@@ -1,7 +1,8 @@
 // The language whose types have parents: a type is caught by itself and by its ancestors.
 ghost use mathlib.Core.Path.{_≡_};
 ghost use denote.Ref.{now as held};
-ghost use Rattle.languages.specs.Types.{tree-class, parent-of, caught-in, Tree-law};
+ghost use Rattle.std.specs.Orderings.{Decides};
+ghost use Rattle.languages.specs.Types.{tree-class, parent-of, caught-in, Catches};
 use crate::language::Language;
 
 // A lent list of parents, the first that of type 1.
@@ -11,6 +12,13 @@ pub struct Tree<'a> {
 }
 
 impl Tree<'_> {
+    // Whether a catch type is the thrown type itself or one of its ancestors.
+    pub fn is_self_or_ancestor(&self, catch: u16, thrown: u16) -> bool
+        ensures { λ r. ⌜ Decides r (Catches (now (now (self .entry) .parents)) catch thrown) ⌝ }
+    {
+        self.catches(catch, thrown)
+    }
+
     // The parent of a type, 0 where it has none.
     fn parent(&self, of: u16) -> u16
         ensures { λ r. ⌜ r ≡ parent-of (now (now (self .entry) .parents)) of ⌝ }
@@ -49,8 +57,3 @@ pub impl<'a> Language for Tree<'a> as TreeLanguage {
         true
     }
 }
-
-// A tree catches exactly a type itself and its ancestors.
-pub fn tree_law()
-    ensures { λ _. ⌜ Tree-law ⌝ }
-{}

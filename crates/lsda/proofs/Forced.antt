@@ -22,7 +22,7 @@ use Rattle.numbers.specs.Reading.{then}
 use Rattle.numbers.specs.declared.number.Number.{Number}
 use Rattle.lsda.specs.Chain.{matching, hit-at, ending, onward, link-at, step-at, first-link}
 use Rattle.lsda.specs.Header.{header-at}
-use Rattle.lsda.specs.Site.{isZero, find-site, wanted-of}
+use Rattle.lsda.specs.Site.{is-0, find-site, wanted-of}
 use Rattle.lsda.specs.Turns.{iterate}
 use Rattle.lsda.specs.Verdict.{table-bytes, unlisted, landed, judged-at, verdict-of, leaf-verdict}
 use Rattle.lsda.specs.declared.chain.Walk.{Walk}
@@ -58,20 +58,20 @@ or-true false = refl
 
 module _ (bs : List ℕ) (start : ℕ) (h : Header) (matches : ℕ → Bool) (pad : ℕ) where
   onward-quiet : (noted : Bool) (f d : Number) → Quiet (onward pad noted f d)
-  onward-quiet noted f d = go (isZero (d .value))
+  onward-quiet noted f d = go (is-0 (d .value))
     where
       go : (b : Bool) → Quiet (elim b [ true ↦ Done (ending noted pad) | false ↦ Next (record { at = pos (f .next) +ℤ d .value; from = f .next; noted = noted }) ])
       go true = ending-harmless noted pad
       go false = tt
 
   hit-forced : (z : ℤ) (at : ℕ) → hit-at bs start (h .types) matches true z at ≡ Ok false
-  hit-forced z at = rw (or-true (isZero z), hit-at)
+  hit-forced z at = rw (or-true (is-0 z), hit-at)
 
   link-quiet : (noted : Bool) (at : ℕ) → made (link-at bs start (h .types) matches true pad noted at) Quiet
   link-quiet noted at =
       made-then Quiet (leb128-at bs true at) _ (λ f.
       made-then Quiet (leb128-at bs true (f .next)) _ (λ d.
-      rw (hit-forced (f .value) at) (onward-quiet (noted || isZero (f .value)) f d)))
+      rw (hit-forced (f .value) at) (onward-quiet (noted || is-0 (f .value)) f d)))
 
   step-quiet : (w : Walk) → made (step-at bs start h matches true pad w) Quiet
   step-quiet w = go (w .at)

@@ -18,7 +18,7 @@ use Rattle.numbers.specs.Digits.{width-bytes}
 use Rattle.numbers.specs.Numbers.{leb128-at, fixed-at}
 use Rattle.numbers.specs.Reading.{broken, then}
 use Rattle.numbers.specs.declared.number.Number.{Number}
-use Rattle.lsda.specs.Site.{isZero}
+use Rattle.lsda.specs.Site.{is-0}
 use Rattle.lsda.specs.Turns.{iterate}
 use Rattle.lsda.specs.declared.chain.Walk.{Walk}
 use Rattle.lsda.specs.declared.header.Header.{Header}
@@ -53,7 +53,7 @@ matching native caught q type = eqb type 0 || (eqb (q .class) native && caught t
 -- whether the filter at an offset matches: 0 does not, and a forced question passes over every other
 abbrev pub hit-at : List ℕ → ℕ → Option TypeTable → (ℕ → Bool) → Bool → ℤ → ℕ → Result Bool Fault
 hit-at bs start types matches forced filter at =
-    elim (isZero filter || forced) [
+    elim (is-0 filter || forced) [
       | true ↦ Ok false
       | false ↦ elim filter [
         | pos n ↦ then (entry-at bs start types n at) (λ type. Ok (matches type))
@@ -68,7 +68,7 @@ ending noted pad = elim noted [ true ↦ Cleanup pad | false ↦ Nothing ]
 -- what follows a link that does not match: displacement 0 ends the chain, another is counted from its own first byte
 abbrev pub onward : ℕ → Bool → Number → Number → Turn Walk Verdict
 onward pad noted filter displacement =
-    elim (isZero (displacement .value)) [
+    elim (is-0 (displacement .value)) [
       | true ↦ Done (ending noted pad)
       | false ↦ Next (record { at = pos (filter .next) +ℤ displacement .value; from = filter .next; noted = noted })
     ]
@@ -81,7 +81,7 @@ link-at bs start types matches forced pad noted at =
     then (hit-at bs start types matches forced (filter .value) at) (λ hit.
     elim hit [
       | true ↦ Ok (Done (Handler pad (filter .value)))
-      | false ↦ Ok (onward pad (noted || isZero (filter .value)) filter displacement)
+      | false ↦ Ok (onward pad (noted || is-0 (filter .value)) filter displacement)
     ])))
 
 -- a link starts in the action table, which goes from the end of the call-site table to the table's end

@@ -67,13 +67,13 @@ fields-at bs format at =
     then (in-record-at (unsigned-at bs (pad .next)) at) (λ action.
     Ok (record { start = start; length = length; pad = pad; action = action })))))
 
-abbrev pub isZero : ℤ → Bool
-isZero (pos n) = eqb n 0
-isZero (negsuc n) = false
+abbrev pub is-0 : ℤ → Bool
+is-0 (pos n) = eqb n 0
+is-0 (negsuc n) = false
 
 -- a pad field of 0 is no pad; another is counted from the landing start
 abbrev pub pad-of : ℤ → ℕ → Option ℕ
-pad-of field address = elim (isZero field) [ true ↦ None | false ↦ Some address ]
+pad-of field address = elim (is-0 field) [ true ↦ None | false ↦ Some address ]
 
 abbrev pub judged-fields : ℕ → ℕ → ℕ → Fields → Result Ranged Fault
 judged-fields landing function at f =

@@ -1,56 +1,54 @@
 // Numbers, read and compared with what they stand for.
-use numbers::format::decode_format;
-use numbers::format::read_number;
-use numbers::number::read_leb128;
-use personality::fault::Cause;
-
-// Bytes, and the number that they are.
-#[derive(Clone, Copy)]
-pub struct Encoded<'a> {
-    pub bytes: &'a [u8],
-    pub value: i64,
-}
-
-// Bytes that are no number, and why.
-#[derive(Clone, Copy)]
-pub struct Faulty<'a> {
-    pub bytes: &'a [u8],
-    pub cause: Cause,
-}
-
-// Whether a LEB128 number takes all of the bytes and has the value.
-pub fn reads_as(case: Encoded, signed: bool) -> bool {
-    match read_leb128(case.bytes, 0, signed) {
-        Ok(number) => number.value == case.value && number.next == case.bytes.len(),
-        Err(_) => false,
-    }
-}
-
-// Whether the bytes are refused for the cause, at their first byte.
-pub fn fails_by(case: Faulty, signed: bool) -> bool {
-    match read_leb128(case.bytes, 0, signed) {
-        Ok(_) => false,
-        Err(fault) => fault.cause.number() == case.cause.number()
-            && fault.offset == 0
-            && fault.layer == 0,
-    }
-}
-
-// Whether a format's number takes so many of the bytes and has the value.
-pub fn reads_in(code: u8, case: Encoded) -> bool {
-    let Some(format) = decode_format(code) else {
-        return false;
-    };
-    match read_number(case.bytes, 0, format) {
-        Ok(number) => number.value == case.value && number.next == case.bytes.len(),
-        Err(_) => false,
-    }
-}
-
 #[cfg(test)]
 mod tests {
-    use super::*;
+    use numbers::format::decode_format;
+    use numbers::format::read_number;
+    use numbers::number::read_leb128;
+    use personality::fault::Cause;
     use std::test::*;
+
+    // Bytes, and the number that they are.
+    #[derive(Clone, Copy)]
+    struct Encoded<'a> {
+        bytes: &'a [u8],
+        value: i64,
+    }
+
+    // Bytes that are no number, and why.
+    #[derive(Clone, Copy)]
+    struct Faulty<'a> {
+        bytes: &'a [u8],
+        cause: Cause,
+    }
+
+    // Whether a LEB128 number takes all of the bytes and has the value.
+    fn reads_as(case: Encoded, signed: bool) -> bool {
+        match read_leb128(case.bytes, 0, signed) {
+            Ok(number) => number.value == case.value && number.next == case.bytes.len(),
+            Err(_) => false,
+        }
+    }
+
+    // Whether the bytes are refused for the cause, at their first byte.
+    fn fails_by(case: Faulty, signed: bool) -> bool {
+        match read_leb128(case.bytes, 0, signed) {
+            Ok(_) => false,
+            Err(fault) => fault.cause.number() == case.cause.number()
+                && fault.offset == 0
+                && fault.layer == 0,
+        }
+    }
+
+    // Whether a format's number takes so many of the bytes and has the value.
+    fn reads_in(code: u8, case: Encoded) -> bool {
+        let Some(format) = decode_format(code) else {
+            return false;
+        };
+        match read_number(case.bytes, 0, format) {
+            Ok(number) => number.value == case.value && number.next == case.bytes.len(),
+            Err(_) => false,
+        }
+    }
 
     // The unsigned examples of the DWARF standard.
     #[test]

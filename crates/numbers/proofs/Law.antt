@@ -24,7 +24,7 @@ use Rattle.numbers.specs.declared.number.Width.{Width}
 use Rattle.numbers.specs.declared.number.Width.the-variants.{Two, Four}
 use Rattle.numbers.specs.Digits.{digits-at, above, last-digit, bytes-at, width-bytes}
 use Rattle.numbers.specs.Formats.{number-at}
-use Rattle.numbers.specs.Laws.{Shaped, sum-to, digit-sum, meaning, Encodes, Leb128-law}
+use Rattle.numbers.specs.Laws.{Shaped, sum-to, digit-sum, meaning, Encodes, Means}
 use Rattle.numbers.specs.Numbers.{limit, value-of, fits, judged, leb128-at, unsigned-at}
 use Rattle.numbers.specs.Reading.{then, broken}
 use Rattle.numbers.proofs.Digit.{digits-cut, digits-last, digits-more, digits-none}
@@ -151,8 +151,9 @@ module _ (bs : List ℕ) (at : ℕ) (signed : Bool) where
       let j : judged signed at (written bs at n) ≡ Ok (record { value = value-of signed (written bs at n); next = at + n }) = rw (f, judged) in
       rw q (j ∙ ap (λ y. Ok (record { value = y; next = at + n })) (sym (w .value)))
 
-pub leb128-law : Leb128-law
-leb128-law bs at signed = (encodes bs at signed, decodes bs at signed)
+-- a reading that is the definition's means what the law says
+pub leb128-means : (bs : List ℕ) (signed : Bool) (at : ℕ) (r : Result Number Fault) → r ≡ leb128-at bs signed at → Means bs signed at r
+leb128-means bs signed at r e = (λ number f. encodes bs at signed number (sym e ∙ f), λ n z l w. e ∙ decodes bs at signed n z l w)
 
 -- a reading that ends well goes on from its parts
 pub then-parts : {A B : Type 0} (r : Result A Fault) (f : A → Result B Fault) (y : B) → then r f ≡ Ok y → (x : A) × (r ≡ Ok x) × (f x ≡ Ok y)

@@ -6,8 +6,10 @@ use mathlib.Core.Path.{_≡_}
 use lib.Dec.{leb}
 use lib.IntN.{ℤ, pos, subℕ}
 use lib.ListN.{getD, length}
+use Rattle.std.specs.declared.result.Result.{Result}
 use Rattle.std.specs.declared.result.Result.the-variants.{Ok}
-use Rattle.numbers.specs.Numbers.{leb128-at, fits, limit}
+use Rattle.personality.specs.declared.fault.Fault.{Fault}
+use Rattle.numbers.specs.Numbers.{fits, limit}
 use Rattle.numbers.specs.declared.number.Number.{Number}
 
 -- the n bytes from an offset on have the shape of a number: they may be read, and 80 is set on all but the last
@@ -37,9 +39,9 @@ pub record Encodes (bs : List ℕ) (at : ℕ) (signed : Bool) (n : ℕ) (z : ℤ
   pub value : z ≡ meaning bs at n signed
   pub fit : fits signed z ≡ true
 
--- a number that is read is the one that its bytes encode, at most five of them; and what at most five bytes encode is read
-abbrev pub Leb128-law : Type 0
-Leb128-law =
-    (bs : List ℕ) (at : ℕ) (signed : Bool)
-    → ((r : Number) → leb128-at bs signed at ≡ Ok r → (n : ℕ) × (n ≤ limit) × Encodes bs at signed n (r .value) × (r .next ≡ at + n))
-    × ((n : ℕ) (z : ℤ) → n ≤ limit → Encodes bs at signed n z → leb128-at bs signed at ≡ Ok (record { value = z; next = at + n }))
+-- what a reading r means: a number is the one that its bytes encode, at most five of them; and what at most five bytes
+-- encode is read
+abbrev pub Means : List ℕ → Bool → ℕ → Result Number Fault → Type 0
+Means bs signed at r =
+    ((number : Number) → r ≡ Ok number → (n : ℕ) × (n ≤ limit) × Encodes bs at signed n (number .value) × (number .next ≡ at + n))
+    × ((n : ℕ) (z : ℤ) → n ≤ limit → Encodes bs at signed n z → r ≡ Ok (record { value = z; next = at + n }))

@@ -6,7 +6,7 @@ ghost use lib.ListN.{length};
 ghost use Rattle.std.specs.Vec.{made};
 ghost use Rattle.numbers.specs.Digits.{digits-at, bytes-at, width-bytes};
 ghost use Rattle.numbers.specs.Numbers.{limit, value-of, fits, judged, leb128-at, unsigned-at, fixed-at, Within};
-ghost use Rattle.numbers.specs.Laws.{Leb128-law};
+ghost use Rattle.numbers.specs.Laws.{Means};
 use personality::fault::Cause;
 use personality::fault::Fault;
 
@@ -170,8 +170,7 @@ fn in_range(value: i64, signed: bool) -> bool
     }
 }
 
-// The LEB128 number at an offset.
-pub fn read_leb128(bytes: &[u8], at: usize, signed: bool) -> Result<Number, Fault>
+fn leb128(bytes: &[u8], at: usize, signed: bool) -> Result<Number, Fault>
     ensures is { λ r. ⌜ r ≡ leb128-at (now (bytes .entry)) signed at ⌝ }
     ensures within { λ r. ⌜ made r (Within (length (now (bytes .entry))) signed) ⌝ }
 {
@@ -179,12 +178,21 @@ pub fn read_leb128(bytes: &[u8], at: usize, signed: bool) -> Result<Number, Faul
     digits.judge(at, signed)
 }
 
+// The LEB128 number at an offset.
+pub fn read_leb128(bytes: &[u8], at: usize, signed: bool) -> Result<Number, Fault>
+    ensures is { λ r. ⌜ r ≡ leb128-at (now (bytes .entry)) signed at ⌝ }
+    ensures within { λ r. ⌜ made r (Within (length (now (bytes .entry))) signed) ⌝ }
+    ensures means { λ r. ⌜ Means (now (bytes .entry)) signed at r ⌝ }
+{
+    leb128(bytes, at, signed)
+}
+
 // The unsigned LEB128 number at an offset.
 pub fn read_unsigned(bytes: &[u8], at: usize) -> Result<Unsigned, Fault>
     ensures is { λ r. ⌜ r ≡ unsigned-at (now (bytes .entry)) at ⌝ }
     ensures within { λ r. ⌜ made r (λ n. n .next ≤ length (now (bytes .entry))) ⌝ }
 {
-    let number = read_leb128(bytes, at, false)?;
+    let number = leb128(bytes, at, false)?;
     Ok(Unsigned {
         value: number.value as u32,
         next: number.next,
@@ -199,8 +207,3 @@ pub fn read_fixed(bytes: &[u8], at: usize, width: Width, signed: bool) -> Result
     let number = read_bytes(bytes, at, width)?;
     number.judge(at, signed)
 }
-
-// What a LEB128 number means, in both directions.
-pub fn leb128_law()
-    ensures { λ _. ⌜ Leb128-law ⌝ }
-{}

@@ -16,15 +16,15 @@ use Rattle.std.specs.declared.result.Result.the-variants.{Ok, Err}
 use Rattle.personality.specs.declared.fault.Cause.the-variants.{BadLink}
 use Rattle.personality.specs.declared.fault.Fault.{Fault}
 use Rattle.personality.specs.declared.verdict.Verdict.{Verdict}
-use Rattle.personality.specs.declared.verdict.Verdict.the-variants.{Nothing, Cleanup, Handler}
+use Rattle.personality.specs.declared.verdict.Verdict.the-variants.{Nothing, Cleanup, Handler, Terminate}
 use Rattle.numbers.proofs.Law.{then-parts}
 use Rattle.numbers.specs.Numbers.{leb128-at}
 use Rattle.numbers.specs.Reading.{then, broken}
 use Rattle.numbers.specs.declared.number.Number.{Number}
 use Rattle.lsda.specs.Chain.{entry-at, hit-at, ending, onward, link-at, step-at, first-link, chain-at}
-use Rattle.lsda.specs.Site.{isZero}
+use Rattle.lsda.specs.Site.{is-0}
 use Rattle.lsda.specs.Turns.{iterate}
-use Rattle.lsda.specs.Verdict.{landed}
+use Rattle.lsda.specs.Verdict.{landed, verdict-of}
 use Rattle.lsda.specs.declared.chain.Walk.{Walk}
 use Rattle.lsda.specs.declared.header.Header.{Header}
 use Rattle.lsda.specs.declared.header.TypeTable.{TypeTable}
@@ -34,12 +34,12 @@ use Rattle.lsda.specs.declared.turn.Turn.the-variants.{Done, Next}
 use Rattle.table_laws.specs.Chains.{Link, Stands, Leads, at-once, through, Matches, From-link, From-chain, start-of}
 use Rattle.table_laws.specs.Sites.{In, here, there}
 
-is-zero : (z : ℤ) → isZero z ≡ true → z ≡ pos 0
+is-zero : (z : ℤ) → is-0 z ≡ true → z ≡ pos 0
 is-zero (pos n) e = ap pos (eqb-true n 0 e)
 is-zero (negsuc n) e = let z : _≡_ {A = ℕ} 0 1 = cc in absurd (omega arith)
 
-not-zero : (z : ℤ) → isZero z ≡ false → z ≡ pos 0 → ⊥
-not-zero z e f = let g : true ≡ false = subst (λ y. isZero y ≡ false) f e in let z : _≡_ {A = ℕ} 0 1 = cc in omega arith
+not-zero : (z : ℤ) → is-0 z ≡ false → z ≡ pos 0 → ⊥
+not-zero z e f = let g : true ≡ false = subst (λ y. is-0 y ≡ false) f e in let z : _≡_ {A = ℕ} 0 1 = cc in omega arith
 
 and-parts : (a b : Bool) → (a && b) ≡ true → (a ≡ true) × (b ≡ true)
 and-parts true b e = (refl, e)
@@ -60,6 +60,10 @@ ok-same x y e = cc
 ending-no-handler : (noted : Bool) (pad p : ℕ) (s : ℤ) → ending noted pad ≡ Handler p s → ⊥
 ending-no-handler true pad p s e = let z : _≡_ {A = ℕ} 0 1 = cc in omega arith
 ending-no-handler false pad p s e = let z : _≡_ {A = ℕ} 0 1 = cc in omega arith
+
+ending-no-terminate : (noted : Bool) (pad : ℕ) → ending noted pad ≡ Terminate → ⊥
+ending-no-terminate true pad e = let z : _≡_ {A = ℕ} 0 1 = cc in omega arith
+ending-no-terminate false pad e = let z : _≡_ {A = ℕ} 0 1 = cc in omega arith
 
 ending-cleanup : (noted : Bool) (pad p : ℕ) → ending noted pad ≡ Cleanup p → (noted ≡ true) × (pad ≡ p)
 ending-cleanup true pad p e = (refl, cc)
@@ -112,26 +116,26 @@ module _ (bs : List ℕ) (start : ℕ) (h : Header) (matches : ℕ → Bool) (fo
 
   -- where a walk goes after a link that does not match
   abbrev next-walk : Walk → Link → Walk
-  next-walk w l = record { at = pos (l .filter .next) +ℤ l .displacement .value; from = l .filter .next; noted = w .noted || isZero (l .filter .value) }
+  next-walk w l = record { at = pos (l .filter .next) +ℤ l .displacement .value; from = l .filter .next; noted = w .noted || is-0 (l .filter .value) }
 
   -- what one step of a walk may give
   data Step (w : Walk) : Turn Walk Verdict → Type 0 where
     matched : (l : Link) → w .at ≡ pos (l .at) → Stands bs (h .sites .end) l → Hit l → Step w (Done (Handler pad (l .filter .value)))
-    ended : (l : Link) → w .at ≡ pos (l .at) → Stands bs (h .sites .end) l → (Hit l → ⊥) → l .displacement .value ≡ pos 0 → Step w (Done (ending (w .noted || isZero (l .filter .value)) pad))
+    ended : (l : Link) → w .at ≡ pos (l .at) → Stands bs (h .sites .end) l → (Hit l → ⊥) → l .displacement .value ≡ pos 0 → Step w (Done (ending (w .noted || is-0 (l .filter .value)) pad))
     passed : (l : Link) → w .at ≡ pos (l .at) → Stands bs (h .sites .end) l → (Hit l → ⊥) → (l .displacement .value ≡ pos 0 → ⊥) → Step w (Next (next-walk w l))
 
   -- the link that was read gives the step
-  judged : (w : Walk) (t : Turn Walk Verdict) (l : Link) → w .at ≡ pos (l .at) → Stands bs (h .sites .end) l → (b : Bool) → hit l ≡ Ok b → _≡_ {A = Result (Turn Walk Verdict) Fault} (elim b [ true ↦ Ok (Done (Handler pad (l .filter .value))) | false ↦ Ok (onward pad (w .noted || isZero (l .filter .value)) (l .filter) (l .displacement)) ]) (Ok t) → Step w t
+  judged : (w : Walk) (t : Turn Walk Verdict) (l : Link) → w .at ≡ pos (l .at) → Stands bs (h .sites .end) l → (b : Bool) → hit l ≡ Ok b → _≡_ {A = Result (Turn Walk Verdict) Fault} (elim b [ true ↦ Ok (Done (Handler pad (l .filter .value))) | false ↦ Ok (onward pad (w .noted || is-0 (l .filter .value)) (l .filter) (l .displacement)) ]) (Ok t) → Step w t
   judged w t l a s true q e = subst (Step w) (ok-same (Done (Handler pad (l .filter .value))) t e) (matched l a s (hit-true l q))
-  judged w t l a s false q e = go (isZero (l .displacement .value)) refl
+  judged w t l a s false q e = go (is-0 (l .displacement .value)) refl
     where
-      go : (z : Bool) → isZero (l .displacement .value) ≡ z → Step w t
+      go : (z : Bool) → is-0 (l .displacement .value) ≡ z → Step w t
       go true z =
-          let f : onward pad (w .noted || isZero (l .filter .value)) (l .filter) (l .displacement) ≡ Done (ending (w .noted || isZero (l .filter .value)) pad) = rw (z, onward) in
-          subst (Step w) (sym f ∙ ok-same (onward pad (w .noted || isZero (l .filter .value)) (l .filter) (l .displacement)) t e) (ended l a s (hit-false l q) (is-zero (l .displacement .value) z))
+          let f : onward pad (w .noted || is-0 (l .filter .value)) (l .filter) (l .displacement) ≡ Done (ending (w .noted || is-0 (l .filter .value)) pad) = rw (z, onward) in
+          subst (Step w) (sym f ∙ ok-same (onward pad (w .noted || is-0 (l .filter .value)) (l .filter) (l .displacement)) t e) (ended l a s (hit-false l q) (is-zero (l .displacement .value) z))
       go false z =
-          let f : onward pad (w .noted || isZero (l .filter .value)) (l .filter) (l .displacement) ≡ Next (next-walk w l) = rw (z, onward) in
-          subst (Step w) (sym f ∙ ok-same (onward pad (w .noted || isZero (l .filter .value)) (l .filter) (l .displacement)) t e) (passed l a s (hit-false l q) (not-zero (l .displacement .value) z))
+          let f : onward pad (w .noted || is-0 (l .filter .value)) (l .filter) (l .displacement) ≡ Next (next-walk w l) = rw (z, onward) in
+          subst (Step w) (sym f ∙ ok-same (onward pad (w .noted || is-0 (l .filter .value)) (l .filter) (l .displacement)) t e) (passed l a s (hit-false l q) (not-zero (l .displacement .value) z))
 
   linked : (w : Walk) (t : Turn Walk Verdict) (at : ℕ) → w .at ≡ pos at → h .sites .end ≤ at → at < length bs → link-at bs start (h .types) matches forced pad (w .noted) at ≡ Ok t → Step w t
   linked w t at z g i e =
@@ -184,7 +188,7 @@ module _ (bs : List ℕ) (start : ℕ) (h : Header) (matches : ℕ → Bool) (fo
               first-match = λ x i. elim i [ ];
             },
           )
-      go _ (ended l a d m z) f ih = absurd (ending-no-handler (w .noted || isZero (l .filter .value)) pad p s (ok-same (ending (w .noted || isZero (l .filter .value)) pad) (Handler p s) f))
+      go _ (ended l a d m z) f ih = absurd (ending-no-handler (w .noted || is-0 (l .filter .value)) pad p s (ok-same (ending (w .noted || is-0 (l .filter .value)) pad) (Handler p s) f))
       go _ (passed l a d m z) f ih =
           let r = ih (next-walk w l) f in (
             r .0,
@@ -198,6 +202,19 @@ module _ (bs : List ℕ) (start : ℕ) (h : Header) (matches : ℕ → Bool) (fo
               first-match = each-more (λ x. Hit x → ⊥) l (r .1 .earlier) m (r .1 .first-match);
             },
           )
+
+  -- no walk ends in Terminate
+  never-terminates : (k : ℕ) (w : Walk) → walk k w ≡ Ok Terminate → ⊥
+  unfolding iterate
+  never-terminates zero w e = let z : _≡_ {A = ℕ} 0 1 = cc in omega arith
+  never-terminates (suc k) w e =
+      let q = then-parts (step-at bs start h matches forced pad w) _ Terminate e in
+      go (q .0) (step-is w (q .0) (q .1)) (q .2) (never-terminates k)
+    where
+      go : (t : Turn Walk Verdict) → Step w t → after k t ≡ Ok Terminate → ((n : Walk) → walk k n ≡ Ok Terminate → ⊥) → ⊥
+      go _ (matched l a d m) f ih = let z : _≡_ {A = ℕ} 0 1 = cc in omega arith
+      go _ (ended l a d m z) f ih = ending-no-terminate (w .noted || is-0 (l .filter .value)) pad (ok-same (ending (w .noted || is-0 (l .filter .value)) pad) Terminate f)
+      go _ (passed l a d m z) f ih = ih (next-walk w l) f
 
   -- a whole walk that ends in a cleanup: one was noted before, or a link of it has filter 0
   record Whole (most : ℕ) (w : Walk) : Type 0 where
@@ -216,21 +233,21 @@ module _ (bs : List ℕ) (start : ℕ) (h : Header) (matches : ℕ → Bool) (fo
       let q = then-parts (step-at bs start h matches forced pad w) _ (Cleanup p) e in
       go (q .0) (step-is w (q .0) (q .1)) (q .2) (λ n. cleaned k n p)
     where
-      noted-here : (l : Link) (es : List Link) (m : Link) → In l (es ++ (m ∷ [])) → (w .noted || isZero (l .filter .value)) ≡ true → (w .noted ≡ true) ⊎ ((e : Link) × In e (es ++ (m ∷ [])) × (e .filter .value ≡ pos 0))
-      noted-here l es m i b = pick (or-parts (w .noted) (isZero (l .filter .value)) b)
+      noted-here : (l : Link) (es : List Link) (m : Link) → In l (es ++ (m ∷ [])) → (w .noted || is-0 (l .filter .value)) ≡ true → (w .noted ≡ true) ⊎ ((e : Link) × In e (es ++ (m ∷ [])) × (e .filter .value ≡ pos 0))
+      noted-here l es m i b = pick (or-parts (w .noted) (is-0 (l .filter .value)) b)
         where
-          pick : (w .noted ≡ true) ⊎ (isZero (l .filter .value) ≡ true) → (w .noted ≡ true) ⊎ ((e : Link) × In e (es ++ (m ∷ [])) × (e .filter .value ≡ pos 0))
+          pick : (w .noted ≡ true) ⊎ (is-0 (l .filter .value) ≡ true) → (w .noted ≡ true) ⊎ ((e : Link) × In e (es ++ (m ∷ [])) × (e .filter .value ≡ pos 0))
           pick (inl a) = inl a
           pick (inr a) = inr (l, i, is-zero (l .filter .value) a)
 
-      carried : (l : Link) (es : List Link) (m : Link) → ((w .noted || isZero (l .filter .value)) ≡ true) ⊎ ((e : Link) × In e (es ++ (m ∷ [])) × (e .filter .value ≡ pos 0)) → (w .noted ≡ true) ⊎ ((e : Link) × In e (l ∷ (es ++ (m ∷ []))) × (e .filter .value ≡ pos 0))
+      carried : (l : Link) (es : List Link) (m : Link) → ((w .noted || is-0 (l .filter .value)) ≡ true) ⊎ ((e : Link) × In e (es ++ (m ∷ [])) × (e .filter .value ≡ pos 0)) → (w .noted ≡ true) ⊎ ((e : Link) × In e (l ∷ (es ++ (m ∷ []))) × (e .filter .value ≡ pos 0))
       carried l es m (inl b) = noted-here l (l ∷ es) m here b
       carried l es m (inr x) = inr (x .0, there (x .1), x .2)
 
       go : (t : Turn Walk Verdict) → Step w t → after k t ≡ Ok (Cleanup p) → ((n : Walk) → walk k n ≡ Ok (Cleanup p) → (pad ≡ p) × Whole k n) → (pad ≡ p) × Whole (suc k) w
       go _ (matched l a d m) f ih = let z : _≡_ {A = ℕ} 0 1 = cc in absurd (omega arith)
       go _ (ended l a d m z) f ih =
-          let r = ending-cleanup (w .noted || isZero (l .filter .value)) pad p (ok-same (ending (w .noted || isZero (l .filter .value)) pad) (Cleanup p) f) in (
+          let r = ending-cleanup (w .noted || is-0 (l .filter .value)) pad p (ok-same (ending (w .noted || is-0 (l .filter .value)) pad) (Cleanup p) f) in (
             r .1,
             record {
               earlier = [];
@@ -259,6 +276,19 @@ module _ (bs : List ℕ) (start : ℕ) (h : Header) (matches : ℕ → Bool) (fo
 -- a call site with a pad and an action has a chain
 chained : (bs : List ℕ) (start : ℕ) (h : Header) (matches : ℕ → Bool) (forced : Bool) (site : Site) (pad : ℕ) → site .pad ≡ Some pad → eqb (site .action .value) 0 ≡ false → landed bs start h matches forced site ≡ chain-at bs start h matches forced pad (first-link (h .sites .end) (site .action))
 chained bs start h matches forced site pad p a = rw (p, landed, a)
+
+-- a call site never gives Terminate
+pub landed-goes-on : (bs : List ℕ) (start : ℕ) (h : Header) (matches : ℕ → Bool) (forced : Bool) (site : Site) → verdict-of (landed bs start h matches forced site) ≡ Terminate → ⊥
+landed-goes-on bs start h matches forced site e = said (landed bs start h matches forced site) refl e
+  where
+    go : (o : Option ℕ) → site .pad ≡ o → (b : Bool) → eqb (site .action .value) 0 ≡ b → landed bs start h matches forced site ≡ Ok Terminate → ⊥
+    go None o b a f = let g = rw (o, landed) at f in let z : _≡_ {A = ℕ} 0 1 = cc in omega arith
+    go (Some p) o true a f = let g = rw (o, landed, a) at f in let z : _≡_ {A = ℕ} 0 1 = cc in omega arith
+    go (Some p) o false a f = never-terminates bs start h matches forced p 64 (first-link (h .sites .end) (site .action)) (sym (chained bs start h matches forced site p o a) ∙ f)
+
+    said : (r : Result Verdict Fault) → landed bs start h matches forced site ≡ r → verdict-of r ≡ Terminate → ⊥
+    said (Ok v) f g = go (site .pad) refl (eqb (site .action .value) 0) refl (f ∙ ap (λ (x : Verdict). Ok x) g)
+    said (Err x) f g = let z : _≡_ {A = ℕ} 0 1 = cc in omega arith
 
 pub handler-landed : (bs : List ℕ) (start : ℕ) (h : Header) (matches : ℕ → Bool) (forced : Bool) (site : Site) (pad : ℕ) (selector : ℤ) → landed bs start h matches forced site ≡ Ok (Handler pad selector) → (site .pad ≡ Some pad) × From-link bs start h matches forced 64 (start-of h site) selector
 handler-landed bs start h matches forced site pad selector e = go (site .pad) refl (eqb (site .action .value) 0) refl

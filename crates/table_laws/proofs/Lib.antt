@@ -1,4 +1,4 @@
+pub mod Chains
 pub mod Sites
 pub mod Numbered
-pub mod Chains
 pub mod Leaves

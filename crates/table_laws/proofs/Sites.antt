@@ -40,6 +40,7 @@ use Rattle.lsda.specs.declared.site.Site.{Site}
 use Rattle.lsda.specs.declared.site.Wanted.the-variants.{Place}
 use Rattle.lsda.specs.declared.turn.Turn.{Turn}
 use Rattle.lsda.specs.declared.turn.Turn.the-variants.{Done, Next}
+use Rattle.table_laws.proofs.Chains.{landed-goes-on}
 use Rattle.table_laws.specs.Sites as sites
 use Rattle.table_laws.specs.Sites.{In, here, there, Records, Rising, Holds, Agrees, Sites-law}
 
@@ -197,5 +198,6 @@ module _ {L : Type 0} (native : ℕ) (caught : ℕ → ℕ → Bool) (t : Table 
       record {
         listed = λ s i hold. whole ∙ ap (λ o. verdict-of (verdict o)) (pick-held (q .place) s rs i up ok hold);
         unlisted = λ free. whole ∙ ap (λ o. verdict-of (verdict o)) (pick-unheld (q .place) rs free);
+        only = λ e s i hold. landed-goes-on bs (t .start) h (matching native caught q) (q .forced) (s .site) (sym (whole ∙ ap (λ o. verdict-of (verdict o)) (pick-held (q .place) s rs i up ok hold)) ∙ e);
         one = λ s u i j. one-held (q .place) s u rs i j up ok;
       }

@@ -10,6 +10,7 @@ use Rattle.std.specs.declared.option.Option.the-variants.{Some, None}
 use Rattle.std.specs.declared.result.Result.the-variants.{Ok}
 use Rattle.personality.specs.declared.verdict.Question.{Question}
 use Rattle.personality.specs.declared.verdict.Verdict.{Verdict}
+use Rattle.personality.specs.declared.verdict.Verdict.the-variants.{Terminate}
 use Rattle.lsda.specs.Chain.{matching}
 use Rattle.lsda.specs.Header.{header-at}
 use Rattle.lsda.specs.Site.{ranged-at, numbered-at}
@@ -47,6 +48,8 @@ pub record Agrees {L : Type 0} (native : ℕ) (caught : ℕ → ℕ → Bool) (t
   pub listed : (s : Ranged) → In s rs → Holds (q .place) s → r ≡ verdict-of (landed bs (t .start) h (matching native caught q) (q .forced) (s .site))
   -- a place that no record holds is unlisted
   pub unlisted : ((s : Ranged) → In s rs → Holds (q .place) s → ⊥) → r ≡ unlisted (q .forced)
+  -- and no other place is: it alone may get Terminate
+  pub only : r ≡ Terminate → (s : Ranged) → In s rs → Holds (q .place) s → ⊥
   -- no two records hold it
   pub one : (s u : Ranged) → In s rs → In u rs → Holds (q .place) s → Holds (q .place) u → s ≡ u
 

@@ -1,0 +1,4 @@
+pub mod Statements
+pub mod Scripts
+pub mod Answers
+pub mod Reports
