@@ -11,27 +11,27 @@ pub returns-then-next-bytes : goal.returns-then-next-bytes
 returns-then-next-bytes c = record {
   is =
       ap Err c.at.ensures
-      ∙ sym (ap (under c.loop-i.sum c.loop-i.weight) (digits_cut c.args.bytes.now c.args.at (limit - c.loop-i.-i) (limit - (c.loop-i.-i + 1)) c.loop-i.next (omega arith) (omega arith)))
+      ∙ sym (ap (under c.loop-i.sum c.loop-i.weight) (digits_cut c.args.bytes.now c.args.at (limit - c.loop-i._i) (limit - (c.loop-i._i + 1)) c.loop-i.next (omega arith) (omega arith)))
       ∙ c.loop-i.invariant.2;
   within = tt;
 }
 
-pub overflow-mul-sum : goal.overflow-mul-sum
-overflow-mul-sum c = omega (arith, (room 7 c.loop-i.sum c.loop-i.weight c.loop-i.-i c.payload.result (omega arith) (omega arith) (omega arith) (omega (arith, c.payload.ensures))).product)
+pub overflow_mul-sum : goal.overflow_mul-sum
+overflow_mul-sum c = omega (arith, (room 7 c.loop-i.sum c.loop-i.weight c.loop-i._i c.payload.result (omega arith) (omega arith) (omega arith) (omega (arith, c.payload.ensures))).product)
 
-pub overflow-add-sum : goal.overflow-add-sum
-overflow-add-sum c = omega (arith, (room 7 c.loop-i.sum c.loop-i.weight c.loop-i.-i c.payload.result (omega arith) (omega arith) (omega arith) (omega (arith, c.payload.ensures))).sum)
+pub overflow_add-sum : goal.overflow_add-sum
+overflow_add-sum c = omega (arith, (room 7 c.loop-i.sum c.loop-i.weight c.loop-i._i c.payload.result (omega arith) (omega arith) (omega arith) (omega (arith, c.payload.ensures))).sum)
 
-pub overflow-mul-weight : goal.overflow-mul-weight
-overflow-mul-weight c = omega (arith, (room 7 c.loop-i.sum c.loop-i.weight c.loop-i.-i 0 (omega arith) (omega arith) (omega arith) (omega arith)).weight)
+pub overflow_mul-weight : goal.overflow_mul-weight
+overflow_mul-weight c = omega (arith, (room 7 c.loop-i.sum c.loop-i.weight c.loop-i._i 0 (omega arith) (omega arith) (omega arith) (omega arith)).weight)
 
 pub returns-then-byte-lt128 : goal.returns-then-byte-lt128
 returns-then-byte-lt128 c =
     let b = get_or c.args.bytes.now c.loop-i.next 0 in
     let low : c.payload.result ≡ b = omega (arith, c.payload.ensures) in
-    let d = digits_last c.args.bytes.now c.args.at (limit - c.loop-i.-i) (limit - (c.loop-i.-i + 1)) c.loop-i.next (omega arith) (omega arith) (omega arith) in
-    let r = room 7 c.loop-i.sum c.loop-i.weight c.loop-i.-i c.payload.result (omega arith) (omega arith) (omega arith) (omega (arith, c.payload.ensures)) in
-    let e : under c.loop-i.sum c.loop-i.weight (Ok (record { sum = c.payload.result; weight = 128; negative = c.sign-bit.result; next = c.loop-i.next + 1 })) ≡ _ = ap (λ x. under c.loop-i.sum c.loop-i.weight (Ok (record { sum = x; weight = 128; negative = c.sign-bit.result; next = c.loop-i.next + 1 }))) low ∙ ap (λ x. under c.loop-i.sum c.loop-i.weight (Ok (record { sum = b; weight = 128; negative = x; next = c.loop-i.next + 1 }))) c.sign-bit.ensures in
+    let d = digits_last c.args.bytes.now c.args.at (limit - c.loop-i._i) (limit - (c.loop-i._i + 1)) c.loop-i.next (omega arith) (omega arith) (omega arith) in
+    let r = room 7 c.loop-i.sum c.loop-i.weight c.loop-i._i c.payload.result (omega arith) (omega arith) (omega arith) (omega (arith, c.payload.ensures)) in
+    let e : under c.loop-i.sum c.loop-i.weight (Ok (record { sum = c.payload.result; weight = 128; negative = c.sign_bit.result; next = c.loop-i.next + 1 })) ≡ _ = ap (λ x. under c.loop-i.sum c.loop-i.weight (Ok (record { sum = x; weight = 128; negative = c.sign_bit.result; next = c.loop-i.next + 1 }))) low ∙ ap (λ x. under c.loop-i.sum c.loop-i.weight (Ok (record { sum = b; weight = 128; negative = x; next = c.loop-i.next + 1 }))) c.sign_bit.ensures in
     record {
       is = e ∙ sym (ap (under c.loop-i.sum c.loop-i.weight) d) ∙ c.loop-i.invariant.2;
       within = (omega arith, omega arith, omega arith);
@@ -40,8 +40,8 @@ returns-then-byte-lt128 c =
 pub loop-i-preserved : goal.loop-i-preserved
 loop-i-preserved c =
     let b = get_or c.args.bytes.now c.loop-i.next 0 in
-    let r = room 7 c.loop-i.sum c.loop-i.weight c.loop-i.-i c.payload.result (omega arith) (omega arith) (omega arith) (omega (arith, c.payload.ensures)) in
-    let d = digits_more c.args.bytes.now c.args.at (limit - c.loop-i.-i) (limit - (c.loop-i.-i + 1)) c.loop-i.next (omega arith) (omega arith) (omega arith) in (
+    let r = room 7 c.loop-i.sum c.loop-i.weight c.loop-i._i c.payload.result (omega arith) (omega arith) (omega arith) (omega (arith, c.payload.ensures)) in
+    let d = digits_more c.args.bytes.now c.args.at (limit - c.loop-i._i) (limit - (c.loop-i._i + 1)) c.loop-i.next (omega arith) (omega arith) (omega arith) in (
       r.below,
       r.power,
       simp c.payload.ensures (sym (under_above c.loop-i.sum c.loop-i.weight (b % 128) _) ∙ sym (ap (under c.loop-i.sum c.loop-i.weight) d) ∙ c.loop-i.invariant.2),
@@ -51,7 +51,7 @@ pub returns : goal.returns
 returns c = record {
   is =
       ap Err c.at-2.ensures
-      ∙ sym (ap (under c.loop-i.sum c.loop-i.weight) (digits_none c.args.bytes.now c.args.at (limit - c.loop-i.-i) c.loop-i.next (omega arith)))
+      ∙ sym (ap (under c.loop-i.sum c.loop-i.weight) (digits_none c.args.bytes.now c.args.at (limit - c.loop-i._i) c.loop-i.next (omega arith)))
       ∙ c.loop-i.invariant.2;
   within = tt;
 }

@@ -9,7 +9,7 @@ loop-question-preserved g c =
     let questions = c.args.questions.now in
     let i = c.loop-question.question-index in
     let more = map_more f questions i (record { unit = 0; place = 0; class = 0; thrown = 0; forced = false }) (omega arith) in
-    c.in-ok-push.ensures.items ∙ (ap (λ (xs : List Verdict). xs ++ (c.ask.result ∷ [])) c.loop-question.invariant ∙ (ap (λ (v : Verdict). map f (take i questions) ++ (v ∷ [])) c.ask.ensures ∙ sym more))
+    c.in_ok-push.ensures.items ∙ (ap (λ (xs : List Verdict). xs ++ (c.ask.result ∷ [])) c.loop-question.invariant ∙ (ap (λ (v : Verdict). map f (take i questions) ++ (v ∷ [])) c.ask.ensures ∙ sym more))
 
 pub returns : goal.returns
 returns g c =

@@ -2,8 +2,8 @@ use Rattle.std.proofs.Common.{arith}
 use Rattle.scenario_text.proofs.Digits.{two_digits}
 use Rattle.scenario_text.proofs.number.read_byte.Goals as goal
 
-pub overflow-cast-result : goal.overflow-cast-result
-overflow-cast-result c =
+pub overflow_cast-result : goal.overflow_cast-result
+overflow_cast-result c =
     let read = c.in-Ok.ensures in
     omega (arith, two_digits c.args.word.now read.0.0 (omega arith), read.1)
 

@@ -4,7 +4,7 @@ use Rattle.scenario_text.proofs.words.code.Goals as goal
 
 pub returns-in-Some : goal.returns-in-Some
 returns-in-Some c =
-    let parts = split_parts 35 c.args.line.now (Some (c.in-Some.before, c.in-Some.-comment)) c.in-Some.ensures.cases (lit< tt) in
+    let parts = split_parts 35 c.args.line.now (Some (c.in-Some.before, c.in-Some._comment)) c.in-Some.ensures.cases (lit< tt) in
     (parts.1, inr (_, parts.0))
 
 pub returns-in-None : goal.returns-in-None

@@ -9,5 +9,5 @@ use Rattle.lsda.proofs.leaf.Table.chain.Given as goal
 abbrev pub invariant-loop-i : goal.invariant-loop-i
 invariant-loop-i g l =
     let matches = matching g.L.Language.native (g.L.Language.caught l.self.language) l.question in
-    iterate (step_at l.bytes l.self.start l.header matches l.question.forced l.pad) (λ w. broken BadLink w.from) (64 - l.-i) l.walk
+    iterate (step_at l.bytes l.self.start l.header matches l.question.forced l.pad) (λ w. broken BadLink w.from) (64 - l._i) l.walk
     ≡ chain_at l.bytes l.self.start l.header matches l.question.forced l.pad l.initial.walk

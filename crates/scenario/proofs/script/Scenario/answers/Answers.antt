@@ -4,15 +4,15 @@ use Rattle.scenario_plan.specs.Verdicts.{built_verdict}
 use Rattle.scenario.proofs.Answered.{answered}
 use Rattle.scenario.proofs.script.Scenario.answers.Goals as goal
 
-pub returns-in-ok-personality : goal.returns-in-ok-personality
-returns-in-ok-personality c =
-    let x = c.in-ok-personality.personality in
+pub returns-in_ok-personality : goal.returns-in_ok-personality
+returns-in_ok-personality c =
+    let x = c.in_ok-personality.personality in
     let image = vec_items c.args.self.now.image in
     let questions = vec_items c.args.self.now.questions in
-    made_so c.answer-all.result
+    made_so c.answer_all.result
     (λ v a.
-    answered c.args.self.now.personality c.in-Some.plan x image questions (vec_items v) c.in-Some.is c.in-ok-personality.ensures
+    answered c.args.self.now.personality c.in-Some.plan x image questions (vec_items v) c.in-Some.is c.in_ok-personality.ensures
     (a
-    ∙ ap (λ bytes. map (built_verdict x bytes) c.as-slice-in-Some.result.now) c.as-slice.ensures.value
-    ∙ ap (λ asked. map (built_verdict x image) asked) c.as-slice-in-Some.ensures.value))
-    c.answer-all.ensures
+    ∙ ap (λ bytes. map (built_verdict x bytes) c.as_slice-in-Some.result.now) c.as_slice.ensures.value
+    ∙ ap (λ asked. map (built_verdict x image) asked) c.as_slice-in-Some.ensures.value))
+    c.answer_all.ensures

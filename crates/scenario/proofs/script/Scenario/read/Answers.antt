@@ -5,7 +5,7 @@ use Rattle.scenario.proofs.script.Scenario.read.Goals as goal
 
 pub loop-line-init : goal.loop-line-init
 loop-line-init c =
-    let all : lines_rest c.into-iter-line-iterator.result ≡ c.args.text.now = ap lines_rest c.into-iter-line-iterator.ensures.into-iter-gives ∙ c.lines-line-items.ensures.rest in
+    let all : lines_rest c.into_iter-line-iterator.result ≡ c.args.text.now = ap lines_rest c.into_iter-line-iterator.ensures.into_iter-gives ∙ c.lines-line-items.ensures.rest in
     let first = c.new-all.result in
     (c.new-all.ensures, subst (λ (left : List ℕ). Reached c.args.text.now first 0 first left) (sym all) start, omega (arith, ap length all))
 
