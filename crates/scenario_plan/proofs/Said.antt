@@ -15,18 +15,18 @@ made_so (Ok x) f h = f x h
 made_so (Err y) f h = tt
 
 pub says_pair : (x a b : Composed LeafPlan) (ws next mid rest : Words) → PairOf x a b → Begins ws (codes "pair") → next ≡ drop 1 ws → Enclosed (Says a) next mid → Enclosed (Says b) mid rest → Says x ws rest
-says_pair (Leaf p) a b ws next mid rest IfOk name e h k = absurd made
-says_pair (Guest' _ below) a b ws next mid rest IfOk name e h k = absurd made
-says_pair (Pair' _ first _ second) a b ws next mid rest IfOk name e h k =
+says_pair (Leaf p) a b ws next mid rest made name e h k = absurd made
+says_pair (Guest' _ below) a b ws next mid rest made name e h k = absurd made
+says_pair (Pair' _ first _ second) a b ws next mid rest made name e h k =
     let h' = subst (λ (w : Words). Enclosed (Says a) w mid) e h in
-    (name, (mid, subst (λ (y : Composed LeafPlan). Enclosed (Says y) (drop 1 ws) mid) (sym IfOk.0) h', subst (λ (y : Composed LeafPlan). Enclosed (Says y) mid rest) (sym IfOk.1) k))
+    (name, (mid, subst (λ (y : Composed LeafPlan). Enclosed (Says y) (drop 1 ws) mid) (sym made.0) h', subst (λ (y : Composed LeafPlan). Enclosed (Says y) mid rest) (sym made.1) k))
 
 pub says_guest : (x a : Composed LeafPlan) (ws next rest : Words) → GuestOf x a → Begins ws (codes "guest") → next ≡ drop 1 ws → Enclosed (Says a) next rest → Says x ws rest
-says_guest (Leaf p) a ws next rest IfOk name e h = absurd made
-says_guest (Pair' _ first _ second) a ws next rest IfOk name e h = absurd made
-says_guest (Guest' _ below) a ws next rest IfOk name e h =
+says_guest (Leaf p) a ws next rest made name e h = absurd made
+says_guest (Pair' _ first _ second) a ws next rest made name e h = absurd made
+says_guest (Guest' _ below) a ws next rest made name e h =
     let h' = subst (λ (w : Words). Enclosed (Says a) w rest) e h in
-    (name, subst (λ (y : Composed LeafPlan). Enclosed (Says y) (drop 1 ws) rest) (sym IfOk) h')
+    (name, subst (λ (y : Composed LeafPlan). Enclosed (Says y) (drop 1 ws) rest) (sym made) h')
 
 lists_shorter : (ns : List ℕ) (ws rest : Words) → Lists ns ws rest → length rest ≤ length ws
 lists_shorter [] ws rest h = omega (arith, ap length h.0)
