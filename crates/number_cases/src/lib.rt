@@ -1,4 +1,6 @@
 // Numbers, read and compared with what they stand for.
+#![tactic(auto)]
+
 #[cfg(test)]
 mod tests {
     use numbers::format::{decode_format, read_number};

@@ -1,5 +1,7 @@
 // The rules of the twelve calls are in specs/: the state, one step for each call, the book that is read off calls and answers,
 // and the promise on every list of calls. Each function here names a theorem in its contract, so that its proof is asked for.
+#![tactic(auto)]
+
 ghost use Rattle.rules.specs.Excluded.{AnswersInTurn, ShutOut};
 ghost use Rattle.rules.specs.Landings.{LandingLists};
 ghost use Rattle.rules.specs.Laws.{RefusalsLeave, HandlerCounts, CatchesOrdered, RoomKept, BoundsKept};

@@ -1,4 +1,6 @@
 // Scenarios that are refused, with the message of each, and scenarios that are not, with their answers.
+#![tactic(auto)]
+
 #[cfg(test)]
 mod tests {
     use scenario::report::Asked;

@@ -1,4 +1,6 @@
 // Personalities as scenarios write them: plans that own their lists, read from words, and built over those lists.
+#![tactic(auto)]
+
 pub mod build;
 pub mod plan;
 pub mod read;

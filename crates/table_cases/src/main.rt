@@ -1,5 +1,7 @@
 // The answers to many scenarios, each after a line `== NAME`. What is expected was worked out from the rules, and not taken
 // from what the program printed.
+#![tactic(auto)]
+
 use scenario::report::print_answers;
 use scenario::script::Scenario;
 use std::io;

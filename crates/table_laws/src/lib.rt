@@ -1,5 +1,7 @@
 // What the verdict of a table means: laws above the definitions that the leaves are proved against, each on a call that
 // asks a leaf; and a worked table.
+#![tactic(auto)]
+
 ghost use Rattle.std.specs.Prelude.{◌≡◌};
 ghost use Rattle.lsda.specs.declared.header.Layout.TheVariants as layouts;
 ghost use Rattle.table_laws.specs.Chains.{HandlerLaw, CleanupLaw};

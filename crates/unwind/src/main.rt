@@ -1,6 +1,9 @@
 // unwind FILE: reads a scenario from the file, or from standard input without one, and prints its answers and a report.
+#![tactic(auto)]
+
 use scenario::report::print_answers;
 use scenario::script::Scenario;
+use std::process::ExitCode;
 use std::{env, fs, io};
 
 // Why the program ends with status 1.
@@ -36,10 +39,13 @@ fn run(rt: &HostRuntime) -> Result<(), Failure> {
     }
 }
 
-fn main(rt: HostRuntime) -> Result<(), Failure> {
-    let ended = run(&rt);
-    if let Err(Failure::World(error)) = &ended {
-        let _ = eprintln!(rt; "{error}");
+fn main(rt: HostRuntime) -> ExitCode {
+    match run(&rt) {
+        Ok(()) => ExitCode::SUCCESS,
+        Err(Failure::BadScenario) => ExitCode::FAILURE,
+        Err(Failure::World(error)) => {
+            let _ = eprintln!(rt; "{error}");
+            ExitCode::FAILURE
+        }
     }
-    ended
 }
