@@ -1,5 +1,5 @@
 -- Types, their parents, and which types catch a thrown one.
-use Rattle.std.specs.Prelude.{ℕ, zero, suc, ◌-◌, ◌<◌, Bool, true, false, List, ◌==◌, nat_lt, slice_index, slice_index_or}
+use Rattle.std.specs.Prelude.{ℕ, zero, suc, ◌-◌, ◌<◌, Bool, true, false, List, ◌==◌, nat_lt, slice_index}
 
 -- "GNUCC++" and a zero byte; "LOOMPICK"
 abbrev pub tree_class : ℕ
@@ -11,7 +11,7 @@ exact_class = 0x4c4f4f4d5049434b
 -- the parent of a type in a list of parents, the first that of type 1: 0, which stands for none, where the list has none
 -- for it, or one that is not below the type itself
 abbrev pub parent_of : List ℕ → ℕ → ℕ
-parent_of parents t = elim (nat_lt (slice_index parents (t - 1)) t) [ true ↦ slice_index_or parents (t - 1) 0 | false ↦ 0 ]
+parent_of parents t = elim (nat_lt (slice_index parents (t - 1)) t) [ true ↦ slice_index parents (t - 1) | false ↦ 0 ]
 
 -- a catch type catches a thrown type: it is the type itself, or an ancestor of it
 pub data Catches (parents : List ℕ) (catch : ℕ) : ℕ → Type 0 where

@@ -1,5 +1,5 @@
 // The language in which a type is caught by itself alone.
-ghost use Rattle.std.specs.Prelude.{◌≡◌, ◌==◌};
+ghost use Rattle.std.specs.Prelude.{nat_eq};
 ghost use Rattle.languages.specs.Types.{exact_class};
 
 use crate::language::Language;
@@ -12,7 +12,7 @@ impl Language for Exact {
 
     ghost native = { exact_class };
 
-    ghost caught = { λ _ catch thrown. (catch == thrown) };
+    ghost caught = { λ _ catch thrown. nat_eq catch thrown };
 
     fn is_native(&self, class: u64) -> bool {
         class == Self::CLASS

@@ -1,5 +1,5 @@
 -- The turns of a loop, for an invariant that says that what is left gives the answer.
-use Rattle.std.proofs.Common.{◌≡◌, ℕ, zero, suc, ◌+◌, ◌-◌, ◌<◌, ◌≤◌, Ok, Err, Result, sym, refl, ap, ◌∙◌, arith}
+use Rattle.std.proofs.Common.{◌≡◌, ℕ, suc, ◌+◌, ◌-◌, ◌<◌, ◌≤◌, Ok, Err, Result, arith}
 use Rattle.personality.specs.declared.fault.Fault.{Fault}
 use Rattle.lsda.specs.Turns.{iterate}
 use Rattle.lsda.specs.declared.turn.Turn.{Turn}

@@ -1,6 +1,5 @@
 -- A forced question gets neither a handler nor a termination from a table.
 use Rattle.std.specs.Prelude.{◌≡◌, ℕ, zero, suc, Bool, true, false, ◌&&◌, ◌||◌, List, length, take, ℤ, pos, negsuc, ◌+ℤ◌, IfOk, Some, None, Ok, Err, Option, Result, ◌==◌, nat_le, nat_lt, refl}
-use Rattle.std.proofs.Common.{subst, sym}
 use Rattle.personality.specs.Layers.{in_unit_0}
 use Rattle.personality.specs.Verdicts.{Harmless}
 use Rattle.personality.specs.declared.fault.Fault.{Fault}
@@ -18,7 +17,6 @@ use Rattle.lsda.specs.Verdict.{table_bytes, unlisted, landed, judged_at, verdict
 use Rattle.lsda.specs.declared.chain.Walk.{Walk}
 use Rattle.lsda.specs.declared.header.Header.{Header}
 use Rattle.lsda.specs.declared.header.Layout.{Layout}
-use Rattle.lsda.specs.declared.header.TypeTable.{TypeTable}
 use Rattle.lsda.specs.declared.leaf.Table.{Table}
 use Rattle.lsda.specs.declared.site.Site.{Site}
 use Rattle.lsda.specs.declared.site.Wanted.{Wanted}

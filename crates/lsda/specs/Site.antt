@@ -1,15 +1,12 @@
 -- Call sites, over the bytes bs from the image's start to the end of the call-site table.
-use Rattle.std.specs.Prelude.{ℕ, ◌+◌, ◌-◌, ◌≤◌, Bool, true, false, List, length, ℤ, pos, negsuc, ◌≤ℤ◌, ◌<ℤ◌, Some, None, Ok, Err, Option, Result, ◌==◌, nat_le, nat_lt}
+use Rattle.std.specs.Prelude.{ℕ, ◌+◌, ◌-◌, Bool, true, false, List, length, ℤ, pos, negsuc, ◌≤ℤ◌, ◌<ℤ◌, Some, None, Ok, Err, Option, Result, ◌==◌, nat_le, nat_lt}
 use Rattle.personality.specs.Faults.{arisen}
-use Rattle.personality.specs.declared.fault.Cause.{Cause}
 use Rattle.personality.specs.declared.fault.Cause.TheVariants.{CutShort, TooLarge, BadFormat, PastCallSites, BadLink, BadTypeEntry, BadAddress, NoUnit}
 use Rattle.personality.specs.declared.fault.Fault.{Fault}
 use Rattle.numbers.specs.Formats.{number_at}
 use Rattle.numbers.specs.Numbers.{unsigned_at}
 use Rattle.numbers.specs.Reading.{broken, then}
 use Rattle.numbers.specs.declared.format.Format.{Format}
-use Rattle.numbers.specs.declared.number.Number.{Number}
-use Rattle.numbers.specs.declared.number.Unsigned.{Unsigned}
 use Rattle.lsda.specs.declared.header.Header.{Header}
 use Rattle.lsda.specs.declared.header.Layout.{Layout}
 use Rattle.lsda.specs.declared.header.Layout.TheVariants.{Lsda, Sjlj}

@@ -1,5 +1,5 @@
 -- The verdict of a table.
-use Rattle.std.specs.Prelude.{ℕ, ◌+◌, Bool, true, false, List, length, take, Some, None, Ok, Err, Option, Result, ◌==◌, nat_le}
+use Rattle.std.specs.Prelude.{ℕ, ◌+◌, Bool, true, false, List, length, take, Some, None, Ok, Err, Result, ◌==◌, nat_le}
 use Rattle.std.specs.Borrow.{Bor}
 use Rattle.personality.specs.Layers.{in_unit_0}
 use Rattle.personality.specs.declared.fault.Cause.TheVariants.{CutShort}

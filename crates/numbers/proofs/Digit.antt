@@ -1,5 +1,5 @@
 -- The steps of the digits of a number.
-use Rattle.std.proofs.Common.{◌≡◌, ℕ, zero, suc, ◌+◌, ◌-◌, ◌*◌, ◌%◌, ◌^◌, ◌<◌, ◌≤◌, Bool, true, false, ltb, leb, List, length, get_or, Ok, Err, Result, sym, refl, ap, ◌∙◌, mul_assoc, mul-le-mul_left, mul-suc, mul-add, add-one, arith, pow_mono, pow-add}
+use Rattle.std.proofs.Common.{◌≡◌, ℕ, suc, ◌+◌, ◌-◌, ◌*◌, ◌%◌, ◌^◌, ◌<◌, ◌≤◌, leb, List, length, get_or, Ok, Err, Result, sym, refl, ap, ◌∙◌, mul_assoc, mul-le-mul_left, mul-suc, mul-add, add-one, arith, pow_mono, pow-add}
 use Rattle.personality.specs.declared.fault.Cause.TheVariants.{CutShort, TooLarge}
 use Rattle.personality.specs.declared.fault.Fault.{Fault}
 use Rattle.numbers.specs.declared.number.Digits.{Digits}

@@ -1,5 +1,5 @@
 -- What is read is what the bytes encode, and what they encode is read.
-use Rattle.std.proofs.Common.{◌≡◌, ℕ, zero, suc, ◌+◌, ◌-◌, ◌*◌, ◌%◌, ◌^◌, ◌<◌, ◌≤◌, Bool, true, false, ltb, leb, ◌⊎◌, List, length, get_or, ℤ, Ok, Err, Result, sym, refl, ap, ◌∙◌, subst, inl, inr, mul-add, mul_left_comm, add-one, arith}
+use Rattle.std.proofs.Common.{◌≡◌, ℕ, zero, suc, ◌+◌, ◌-◌, ◌*◌, ◌%◌, ◌^◌, ◌<◌, ◌≤◌, Bool, true, false, leb, ◌⊎◌, List, length, get_or, ℤ, Ok, Err, Result, sym, refl, ap, ◌∙◌, subst, inl, inr, mul-add, mul_left_comm, add-one, arith}
 use native.Mathlib.Nat.{pow-succ'}
 use Rattle.std.proofs.lemmas.Bool.{cases_lt}
 use Rattle.personality.specs.declared.fault.Fault.{Fault}
@@ -11,11 +11,11 @@ use Rattle.numbers.specs.declared.number.Number.{Number}
 use Rattle.numbers.specs.declared.number.Unsigned.{Unsigned}
 use Rattle.numbers.specs.declared.number.Width.{Width}
 use Rattle.numbers.specs.declared.number.Width.TheVariants.{Two, Four}
-use Rattle.numbers.specs.Digits.{digits_at, above, last_digit, bytes_at, width_bytes}
+use Rattle.numbers.specs.Digits.{digits_at, above, bytes_at, width_bytes}
 use Rattle.numbers.specs.Formats.{number_at}
 use Rattle.numbers.specs.Laws.{Shaped, sum_to, digit_sum, meaning, Encodes, Means}
 use Rattle.numbers.specs.Numbers.{limit, value_of, fits, judged, leb128_at, unsigned_at}
-use Rattle.numbers.specs.Reading.{then, broken}
+use Rattle.numbers.specs.Reading.{then}
 use Rattle.numbers.proofs.Digit.{digits_cut, digits_last, digits_more, digits_none}
 
 -- the first term apart, and a base of the others

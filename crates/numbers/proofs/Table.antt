@@ -1,11 +1,9 @@
 -- The table of formats is the rule at each of its places.
-use Rattle.std.proofs.Common.{◌≡◌, ℕ, ◌<◌, ◌≤◌, true, false, eqb, ltb, ◌⊎◌, List, map, get_or, Some, None, Option, sym, refl, ap, ◌∙◌, inl, inr, arith}
+use Rattle.std.proofs.Common.{◌≡◌, ℕ, ◌<◌, ◌≤◌, true, false, ltb, ◌⊎◌, List, map, get_or, Some, None, Option, ap, ◌∙◌, inl, inr, arith}
 use Rattle.std.proofs.lemmas.List.FromFn.{get_or-map-range_with_len}
 use Rattle.std.proofs.lemmas.Bool.{cases_lt}
 use Rattle.std.specs.List.{range_with_len}
 use Rattle.numbers.specs.declared.format.Format.{Format}
-use Rattle.numbers.specs.declared.format.Size.TheVariants.{Leb128, Fixed}
-use Rattle.numbers.specs.declared.number.Width.TheVariants.{Two, Four}
 use Rattle.numbers.specs.Formats.{format_of_code, nibble_of}
 
 -- one computed test: a table that lists the rule at 0 to 15 has it at each code below 16

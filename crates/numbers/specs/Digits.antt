@@ -1,5 +1,5 @@
 -- The digits of a number, over the bytes bs that may be read.
-use Rattle.std.specs.Prelude.{ℕ, zero, suc, ◌+◌, ◌*◌, ◌%◌, ◌^◌, Bool, true, false, List, length, Ok, Result, nat_le, nat_lt, slice_index}
+use Rattle.std.specs.Prelude.{ℕ, zero, suc, ◌+◌, ◌*◌, ◌%◌, ◌^◌, true, false, List, length, Ok, Result, nat_le, nat_lt, slice_index}
 use Rattle.personality.specs.declared.fault.Cause.TheVariants.{CutShort, TooLarge}
 use Rattle.personality.specs.declared.fault.Fault.{Fault}
 use Rattle.numbers.specs.Reading.{broken, then}

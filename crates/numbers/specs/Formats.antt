@@ -1,5 +1,5 @@
 -- The sixteen formats of a number.
-use Rattle.std.specs.Prelude.{ℕ, Bool, true, false, ◌||◌, List, Some, None, Option, Result, ◌==◌, nat_lt}
+use Rattle.std.specs.Prelude.{ℕ, true, false, ◌||◌, List, Some, None, Option, Result, ◌==◌, nat_lt}
 use Rattle.personality.specs.declared.fault.Fault.{Fault}
 use Rattle.numbers.specs.Numbers.{leb128_at, fixed_at}
 use Rattle.numbers.specs.declared.format.Format.{Format}

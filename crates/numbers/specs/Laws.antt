@@ -1,5 +1,5 @@
 -- What a LEB128 number means.
-use Rattle.std.specs.Prelude.{◌≡◌, ℕ, zero, suc, ◌+◌, ◌-◌, ◌*◌, ◌%◌, ◌^◌, ◌<◌, ◌≤◌, Bool, true, false, ◌&&◌, List, length, ℤ, pos, Ok, Result, nat_le, slice_index, slice_index_or}
+use Rattle.std.specs.Prelude.{◌≡◌, ℕ, zero, suc, ◌+◌, ◌-◌, ◌*◌, ◌%◌, ◌^◌, ◌<◌, ◌≤◌, Bool, true, false, ◌&&◌, List, length, ℤ, pos, Ok, Result, nat_le, slice_index}
 use Rattle.std.proofs.Math.IntN.{sub_ℕ}
 use Rattle.personality.specs.declared.fault.Fault.{Fault}
 use Rattle.numbers.specs.Numbers.{fits, limit}
@@ -10,7 +10,7 @@ pub record Shaped (bs : List ℕ) (at n : ℕ) : Type 0 where
   pub some : 0 < n
   pub inside : at + n ≤ length bs
   pub more : (i : ℕ) → i + 1 < n → 128 ≤ slice_index bs (at + i)
-  pub last : slice_index_or bs (at + (n - 1)) 0 < 128
+  pub last : slice_index bs (at + (n - 1)) < 128
 
 -- f 0 + f 1 + .. of n terms
 abbrev pub sum_to : (ℕ → ℕ) → ℕ → ℕ

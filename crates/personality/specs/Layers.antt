@@ -1,5 +1,5 @@
 -- The verdicts of Release, Pair and Guest.
-use Rattle.std.specs.Prelude.{ℕ, ◌%◌, Bool, true, false, cond, ◌&&◌, ◌==◌, nat_le, nat_lt}
+use Rattle.std.specs.Prelude.{◌%◌, cond, ◌&&◌, ◌==◌, nat_le, nat_lt}
 use Rattle.personality.specs.Faults.{arisen}
 use Rattle.personality.specs.Verdicts.{raised, halved, pressed}
 use Rattle.personality.specs.declared.fault.Cause.TheVariants.{NoUnit}

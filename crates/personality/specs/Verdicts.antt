@@ -1,5 +1,5 @@
 -- Questions and verdicts on their way through a layer.
-use Rattle.std.specs.Prelude.{ℕ, ◌/◌, true}
+use Rattle.std.specs.Prelude.{◌/◌, true}
 use Rattle.personality.specs.Faults.{lifted}
 use Rattle.personality.specs.declared.verdict.Question.{Question}
 use Rattle.personality.specs.declared.verdict.Verdict.{Verdict}

@@ -1,5 +1,5 @@
 -- The answers of a personality that is built as the plan says are those of the plan.
-use Rattle.std.proofs.Common.{◌≡◌, ℕ, List, [], ◌∷◌, map, Some, Option, sym, refl, ap, ◌∙◌, subst}
+use Rattle.std.proofs.Common.{◌≡◌, ℕ, List, [], ◌∷◌, map, Some, Option, sym, refl, ◌∙◌, subst}
 use Rattle.languages.specs.declared.tree.Tree.{Tree}
 use Rattle.personality.specs.declared.verdict.Question.{Question}
 use Rattle.personality.specs.declared.verdict.Verdict.{Verdict}

@@ -1,5 +1,5 @@
 -- A list that is read word by word.
-use Rattle.std.proofs.Common.{◌≡◌, ℕ, ◌⊎◌, List, [], ◌∷◌, ◌++◌, length, drop, codes, sym, refl, ◌∙◌, subst, append_assoc, append-nil}
+use Rattle.std.proofs.Common.{◌≡◌, ℕ, ◌⊎◌, List, [], ◌∷◌, ◌++◌, length, drop, codes, sym, refl, subst, append_assoc, append-nil}
 use Rattle.scenario_text.specs.Words.{Words, Begins, Writes}
 use Rattle.scenario_plan.specs.Says.{Lists}
 

@@ -1,5 +1,5 @@
 -- Layers are said by their parts, and what is said leaves no more words than there were.
-use Rattle.std.proofs.Common.{◌≡◌, ℕ, ◌+◌, ◌<◌, ◌≤◌, List, [], ◌∷◌, length, drop, IfOk, Ok, Err, vec_items, codes, Result, sym, ap, subst, arith, length-drop}
+use Rattle.std.proofs.Common.{◌≡◌, ℕ, ◌<◌, ◌≤◌, List, [], ◌∷◌, length, drop, IfOk, Ok, Err, vec_items, codes, Result, sym, ap, subst, arith, length-drop}
 use Rattle.composed.specs.Tree.{PairOf, GuestOf}
 use Rattle.composed.specs.declared.tree.Composed.{Composed}
 use Rattle.composed.specs.declared.tree.Composed.TheVariants.{Leaf, Pair', Guest'}

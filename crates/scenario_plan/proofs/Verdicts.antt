@@ -1,6 +1,5 @@
 -- A personality that is built as a plan says has the plan's verdicts.
 use Rattle.std.proofs.Common.{◌≡◌, ℕ, ◌%◌, Bool, true, false, cond, eqb, List, refl, ap, ◌∙◌}
-use Rattle.personality.specs.Layers.{release_verdict}
 use Rattle.personality.specs.Verdicts.{raised, halved, pressed}
 use Rattle.personality.specs.declared.verdict.Question.{Question}
 use Rattle.personality.specs.declared.verdict.Verdict.{Verdict}

@@ -1,21 +1,19 @@
 -- The walk along a chain, and the link that gives its verdict.
-use Rattle.std.proofs.Common.{◌≡◌, ℕ, zero, suc, ◌+◌, ◌-◌, ◌<◌, ◌≤◌, Bool, true, false, ◌&&◌, ◌||◌, eqb, ltb, leb, ◌⊎◌, List, [], ◌∷◌, ◌++◌, length, ℤ, pos, negsuc, ◌+ℤ◌, Some, None, Ok, Err, Option, Result, sym, refl, ap, ◌∙◌, subst, inl, inr, arith}
+use Rattle.std.proofs.Common.{◌≡◌, ℕ, zero, suc, ◌<◌, ◌≤◌, Bool, true, false, ◌&&◌, ◌||◌, eqb, ltb, leb, ◌⊎◌, List, [], ◌∷◌, ◌++◌, length, ℤ, pos, negsuc, ◌+ℤ◌, Some, None, Ok, Err, Option, Result, sym, refl, ap, ◌∙◌, subst, inl, inr, arith}
 use Rattle.std.proofs.lemmas.Bool.{eqb-true}
 use Rattle.personality.specs.declared.fault.Cause.TheVariants.{BadLink}
 use Rattle.personality.specs.declared.fault.Fault.{Fault}
 use Rattle.personality.specs.declared.verdict.Verdict.{Verdict}
-use Rattle.personality.specs.declared.verdict.Verdict.TheVariants.{Nothing, Cleanup, Handler, Terminate}
+use Rattle.personality.specs.declared.verdict.Verdict.TheVariants.{Cleanup, Handler, Terminate}
 use Rattle.numbers.proofs.Law.{then_parts}
 use Rattle.numbers.specs.Numbers.{leb128_at}
 use Rattle.numbers.specs.Reading.{then, broken}
-use Rattle.numbers.specs.declared.number.Number.{Number}
 use Rattle.lsda.specs.Chain.{entry_at, hit_at, ending, onward, link_at, step_at, first_link_of, chain_at}
 use Rattle.lsda.specs.Site.{is_0}
 use Rattle.lsda.specs.Turns.{iterate}
 use Rattle.lsda.specs.Verdict.{landed, verdict_of}
 use Rattle.lsda.specs.declared.chain.Walk.{Walk}
 use Rattle.lsda.specs.declared.header.Header.{Header}
-use Rattle.lsda.specs.declared.header.TypeTable.{TypeTable}
 use Rattle.lsda.specs.declared.site.Site.{Site}
 use Rattle.lsda.specs.declared.turn.Turn.{Turn}
 use Rattle.lsda.specs.declared.turn.Turn.TheVariants.{Done, Next}

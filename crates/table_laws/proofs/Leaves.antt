@@ -1,5 +1,5 @@
 -- The laws of a leaf's verdict from those of its call site's.
-use Rattle.std.proofs.Common.{◌≡◌, ℕ, Bool, true, false, eqb, List, take, ℤ, Some, None, Ok, Err, Option, Result, sym, refl, ap, ◌∙◌, arith}
+use Rattle.std.proofs.Common.{◌≡◌, ℕ, Bool, true, false, eqb, List, take, Some, None, Ok, Err, Option, Result, sym, refl, ap, ◌∙◌, arith}
 use Rattle.personality.specs.Layers.{in_unit_0}
 use Rattle.personality.specs.declared.fault.Fault.{Fault}
 use Rattle.personality.specs.declared.verdict.Question.{Question}
@@ -16,7 +16,7 @@ use Rattle.lsda.specs.declared.header.Layout.{Layout}
 use Rattle.lsda.specs.declared.leaf.Table.{Table}
 use Rattle.lsda.specs.declared.site.Site.{Site}
 use Rattle.lsda.specs.declared.site.Wanted.{Wanted}
-use Rattle.table_laws.specs.Chains.{Found, Handled, Cleaned, HandlerLaw, CleanupLaw}
+use Rattle.table_laws.specs.Chains.{Found, HandlerLaw, CleanupLaw}
 use Rattle.table_laws.proofs.Chains.{handler_landed, cleanup_landed}
 
 -- a verdict that lands somewhere is no fault, and no verdict on a place without call site

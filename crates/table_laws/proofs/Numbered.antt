@@ -1,5 +1,5 @@
 -- The search for the n-th call site, over whole lists of numbered records.
-use Rattle.std.proofs.Common.{◌≡◌, ℕ, zero, suc, ◌+◌, ◌-◌, ◌<◌, ◌≤◌, Bool, true, false, eqb, ltb, List, [], ◌∷◌, length, take, Some, None, Ok, Err, Option, Result, sym, refl, ap, ◌∙◌, arith}
+use Rattle.std.proofs.Common.{◌≡◌, ℕ, zero, suc, ◌+◌, ◌-◌, ◌<◌, ◌≤◌, Bool, true, false, eqb, ltb, List, length, take, Some, None, Ok, Err, Option, Result, refl, ap, ◌∙◌, arith}
 use Rattle.std.proofs.lemmas.List.{length-take}
 use Rattle.personality.specs.declared.fault.Cause.TheVariants.{BadAddress}
 use Rattle.personality.specs.declared.fault.Fault.{Fault}
@@ -9,10 +9,9 @@ use Rattle.numbers.proofs.Law.{then_parts, unsigned_onward}
 use Rattle.numbers.specs.Numbers.{unsigned_at}
 use Rattle.numbers.specs.Reading.{then, broken}
 use Rattle.lsda.specs.Chain.{matching}
-use Rattle.lsda.specs.Header.{header_at}
-use Rattle.lsda.specs.Site.{in_record_at, numbered_at, numbered_turn, look, find_site, wanted_of}
+use Rattle.lsda.specs.Site.{in_record_at, numbered_at, numbered_turn, look, find_site}
 use Rattle.lsda.specs.Turns.{iterate}
-use Rattle.lsda.specs.Verdict.{table_bytes, unlisted, landed, judged_at, verdict_of, leaf_verdict}
+use Rattle.lsda.specs.Verdict.{unlisted, landed, judged_at, verdict_of, leaf_verdict}
 use Rattle.lsda.specs.declared.header.Header.{Header}
 use Rattle.lsda.specs.declared.header.Layout.TheVariants.{Sjlj}
 use Rattle.lsda.specs.declared.leaf.Table.{Table}

@@ -1,5 +1,5 @@
 -- The search for a place's call site, over whole lists of records.
-use Rattle.std.proofs.Common.{◌≡◌, ℕ, zero, suc, ◌+◌, ◌-◌, ◌<◌, ◌≤◌, Bool, true, false, eqb, ltb, leb, ◌⊎◌, List, [], ◌∷◌, length, take, ℤ, pos, negsuc, Some, None, Ok, Err, Option, Result, sym, refl, ap, ◌∙◌, subst, inl, inr, arith}
+use Rattle.std.proofs.Common.{◌≡◌, ℕ, zero, suc, ◌+◌, ◌-◌, ◌<◌, ◌≤◌, Bool, true, false, eqb, ltb, leb, ◌⊎◌, List, [], ◌∷◌, length, take, ℤ, pos, negsuc, Some, None, Ok, Err, Option, Result, sym, refl, ap, ◌∙◌, inl, inr, arith}
 use Rattle.std.proofs.lemmas.List.{length-take}
 use Rattle.std.proofs.lemmas.Bool.{cases_lt}
 use Rattle.personality.specs.Layers.{in_unit_0}
@@ -9,15 +9,12 @@ use Rattle.personality.specs.declared.verdict.Verdict.{Verdict}
 use Rattle.numbers.proofs.Law.{then_parts, number_onward, unsigned_onward}
 use Rattle.numbers.specs.Formats.{number_at}
 use Rattle.numbers.specs.Numbers.{unsigned_at}
-use Rattle.numbers.specs.Reading.{then, broken}
+use Rattle.numbers.specs.Reading.{then}
 use Rattle.numbers.specs.declared.format.Format.{Format}
-use Rattle.numbers.specs.declared.number.Number.{Number}
-use Rattle.numbers.specs.declared.number.Unsigned.{Unsigned}
 use Rattle.lsda.specs.Chain.{matching}
-use Rattle.lsda.specs.Header.{header_at}
-use Rattle.lsda.specs.Site.{in_record_at, address, fields_at, judged_fields, ranged_at, ranged_turn, look, find_site}
+use Rattle.lsda.specs.Site.{in_record_at, address, fields_at, ranged_at, ranged_turn, look, find_site}
 use Rattle.lsda.specs.Turns.{iterate}
-use Rattle.lsda.specs.Verdict.{table_bytes, unlisted, landed, judged_at, verdict_of, leaf_verdict}
+use Rattle.lsda.specs.Verdict.{unlisted, landed, judged_at, verdict_of, leaf_verdict}
 use Rattle.lsda.specs.declared.header.Header.{Header}
 use Rattle.lsda.specs.declared.header.Layout.TheVariants.{Lsda}
 use Rattle.lsda.specs.declared.leaf.Table.{Table}

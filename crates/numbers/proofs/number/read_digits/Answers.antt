@@ -1,6 +1,5 @@
 use Rattle.std.proofs.Common.{◌≡◌, ◌+◌, ◌-◌, ◌%◌, get_or, Ok, Err, sym, refl, ap, ◌∙◌, arith}
 use Rattle.numbers.specs.Numbers.{limit}
-use Rattle.numbers.specs.declared.number.Digits.{Digits}
 use Rattle.numbers.proofs.Digit.{room, digits_cut, digits_last, digits_more, digits_none, under, under_above, under_none}
 use Rattle.numbers.proofs.number.read_digits.Goals as goal
 

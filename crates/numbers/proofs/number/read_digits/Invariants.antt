@@ -1,4 +1,4 @@
-use Rattle.std.proofs.Common.{◌≡◌, ◌-◌, ◌*◌, ◌^◌, ◌<◌, ◌≤◌, length}
+use Rattle.std.proofs.Common.{◌≡◌, ◌-◌, ◌*◌, ◌^◌, ◌<◌}
 use Rattle.numbers.specs.Digits.{digits_at}
 use Rattle.numbers.specs.Numbers.{limit}
 use Rattle.numbers.proofs.Digit.{under}

@@ -1,6 +1,6 @@
-use Rattle.std.proofs.Common.{◌≡◌, ◌<◌, length, drop, sym, ap, subst, arith, length-drop, rules}
+use Rattle.std.proofs.Common.{◌<◌, length, sym, ap, subst, arith, length-drop, rules}
 use Rattle.scenario_text.specs.Words.{Words}
-use Rattle.scenario_plan.specs.Says.{Enclosed, Says}
+use Rattle.scenario_plan.specs.Says.{Says}
 use Rattle.scenario_plan.proofs.Said.{made_so, says_pair, says_guest, enclosed_shorter, begins_some}
 use Rattle.scenario_plan.proofs.read.+enclosed_read_plan.Goals as goal
 

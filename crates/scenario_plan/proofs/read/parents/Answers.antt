@@ -1,4 +1,4 @@
-use Rattle.std.proofs.Common.{refl, inl, inr, arith, rules}
+use Rattle.std.proofs.Common.{inl, inr, rules}
 use Rattle.scenario_plan.proofs.Listed.{onward_more, onward_end}
 use Rattle.scenario_plan.proofs.read.parents.Goals as goal
 

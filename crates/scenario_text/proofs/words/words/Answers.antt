@@ -1,4 +1,4 @@
-use Rattle.std.proofs.Common.{◌≡◌, vec_items, sym, subst}
+use Rattle.std.proofs.Common.{vec_items, sym, subst}
 use Rattle.std.specs.Str.Iter.{split_whitespace_rest}
 use Rattle.scenario_text.specs.Words.{Words, Spaced, start, next}
 use Rattle.scenario_text.proofs.words.words.Goals as goal
