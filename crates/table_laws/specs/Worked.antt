@@ -12,7 +12,7 @@ use Rattle.lsda.specs.declared.header.Layout.TheVariants.{Lsda}
 abbrev table : List ℕ
 table = 0xff ∷ 0x03 ∷ 0x10 ∷ 0x01 ∷ 0x08 ∷ 0x00 ∷ 0x10 ∷ 0x20 ∷ 0x01 ∷ 0x10 ∷ 0x10 ∷ 0x30 ∷ 0x00 ∷ 0x01 ∷ 0x00 ∷ 0x02 ∷ 0x00 ∷ 0x00 ∷ 0x00 ∷ []
 
--- the verdict for a native exception of a type, at a place; what the language catches is given by `caught-in`
+-- the verdict for a native exception of a type, at a place; what the language catches is given by `caught_in`
 abbrev pub asked : ℕ → ℕ → Verdict
 asked type place =
     leaf_verdict tree_class (caught_in (0 ∷ 1 ∷ 2 ∷ [])) Lsda (record { start = 0; length = 19; function = 4096; language = tt {0} }) table
