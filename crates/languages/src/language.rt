@@ -5,7 +5,7 @@ pub trait Language {
     // The class of the language's own exceptions; one of another class is foreign.
     const CLASS: u64;
 
-    // CLASS, as contracts name it: a clause cannot cite an associated constant of a type parameter.
+    // CLASS, as contracts name it.
     ghost native: { ℕ };
 
     // Whether a catch type catches a thrown type.

@@ -15,6 +15,10 @@ map_same : (f g : Question → Verdict) → ((q : Question) → f q ≡ g q) →
 map_same f g h [] = refl
 map_same f g h (q ∷ qs) = let e = h q in let r = map_same f g h qs in cc
 
+-- the same image and questions get the same answers
+pub same_asked : (x : Composed (LeafOver Tree)) (image image' : List ℕ) (questions questions' : List Question) (answers : List Verdict) → answers ≡ map (built_verdict x image') questions' → image' ≡ image → questions' ≡ questions → answers ≡ map (built_verdict x image) questions
+same_asked x image image' questions questions' answers a e f = cc
+
 pub answered : (o : Option (Composed LeafPlan)) (p : Composed LeafPlan) (x : Composed (LeafOver Tree)) (image : List ℕ) (questions : List Question) (answers : List Verdict) → o ≡ Some p → Named p x → answers ≡ map (built_verdict x image) questions → Answered o image questions answers
 answered o p x image questions answers e n a =
     subst (λ y. Answered y image questions answers) (sym e)

@@ -1,7 +1,6 @@
-use Rattle.std.proofs.Common.{map, vec_items, ap, ◌∙◌}
+use Rattle.std.proofs.Common.{vec_items, rules}
 use Rattle.scenario_plan.proofs.Said.{made_so}
-use Rattle.scenario_plan.specs.Verdicts.{built_verdict}
-use Rattle.scenario.proofs.Answered.{answered}
+use Rattle.scenario.proofs.Answered.{same_asked, answered}
 use Rattle.scenario.proofs.script.Scenario.answers.Goals as goal
 
 pub returns-in_ok-personality-in-Some : goal.returns-in_ok-personality-in-Some
@@ -12,7 +11,5 @@ returns-in_ok-personality-in-Some c =
     made_so c.answer_all.result
     (λ v a.
     answered c.args.self.now.personality c.in-Some.plan x image questions (vec_items v) c.in-Some.is c.in_ok-personality-in-Some.ensures
-    (a
-    ∙ ap (λ bytes. map (built_verdict x bytes) c.as_slice-in-Some.result.now) c.as_slice.ensures.value
-    ∙ ap (λ asked. map (built_verdict x image) asked) c.as_slice-in-Some.ensures.value))
+    (same_asked x image _ questions _ (vec_items v) a (search rules) (search rules)))
     c.answer_all.ensures
