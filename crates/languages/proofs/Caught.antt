@@ -1,8 +1,7 @@
 -- The test of a type against its ancestors decides the relation.
-use Rattle.std.proofs.Common.{◌≡◌, ℕ, zero, suc, ◌-◌, ◌<◌, ◌≤◌, true, false, ◌⊎◌, List, length, get_or, Decides, sym, refl, ◌∙◌, subst, inl, inr, arith}
-use Rattle.std.proofs.lemmas.List.{get_or_past}
+use Rattle.std.proofs.Common.{◌≡◌, ℕ, zero, suc, ◌≤◌, true, false, ◌⊎◌, List, Some, None, Decides, sym, refl, ap, ◌∙◌, subst, inl, inr, arith}
 use Rattle.std.proofs.lemmas.Bool.{cases_eq, eqb-true}
-use Rattle.languages.specs.Types.{parent_of, caught_within, caught_in, Catches, itself, ancestor}
+use Rattle.languages.specs.Types.{parent_of, caught_within, caught_in, some_parent, Catches, itself, ancestor}
 
 module _ (parents : List ℕ) where
   parent_none : parent_of parents 0 ≡ 0
@@ -10,12 +9,6 @@ module _ (parents : List ℕ) where
 
   parent_le : (t k : ℕ) → t ≤ suc k → parent_of parents t ≤ k
   parent_le t k h = grind arith
-
-  pub parent_outside : (t : ℕ) → length parents < t → 0 ≡ parent_of parents t
-  parent_outside t h =
-      let l : length parents ≤ t - 1 = omega arith in
-      let p : get_or parents (t - 1) 0 ≡ 0 = get_or_past parents (t - 1) 0 l in
-      grind arith
 
   -- more generations than the type's number change nothing
   caught_same : (k j c t : ℕ) → t ≤ k → t ≤ j → caught_within k parents c t ≡ caught_within j parents c t
@@ -41,7 +34,7 @@ module _ (parents : List ℕ) where
   within_none (suc k) c t h e = grind arith
 
   -- one step up
-  pub caught_up : (c t : ℕ) → (t ≡ c → ⊥) → (parent_of parents t ≡ 0 → ⊥) → caught_in parents c t ≡ caught_in parents c (parent_of parents t)
+  caught_up : (c t : ℕ) → (t ≡ c → ⊥) → (parent_of parents t ≡ 0 → ⊥) → caught_in parents c t ≡ caught_in parents c (parent_of parents t)
   unfolding caught_in
   caught_up c zero h g = absurd (g parent_none)
   caught_up c (suc k) h g =
@@ -52,9 +45,21 @@ module _ (parents : List ℕ) where
   unfolding caught_in
   caught_self c t = within_self t c t
 
-  pub caught_none : (c t : ℕ) → (t ≡ c → ⊥) → parent_of parents t ≡ 0 → caught_in parents c t ≡ false
+  -- the same for the option
+  pub caught_by_parent : (c t p : ℕ) → (t ≡ c → ⊥) → Some p ≡ some_parent parents t → caught_in parents c p ≡ caught_in parents c t
+  caught_by_parent c t p h e = go (cases_eq (parent_of parents t) 0)
+    where
+      go : (parent_of parents t ≡ 0) ⊎ (parent_of parents t ≡ 0 → ⊥) → caught_in parents c p ≡ caught_in parents c t
+      go (inl n) = absurd (grind arith)
+      go (inr m) = let q : p ≡ parent_of parents t = grind arith in ap (caught_in parents c) q ∙ sym (caught_up c t h m)
+
+  pub caught_none : (c t : ℕ) → (t ≡ c → ⊥) → None ≡ some_parent parents t → false ≡ caught_in parents c t
   unfolding caught_in
-  caught_none c t = within_none t c t
+  caught_none c t h e = go (cases_eq (parent_of parents t) 0)
+    where
+      go : (parent_of parents t ≡ 0) ⊎ (parent_of parents t ≡ 0 → ⊥) → false ≡ caught_in parents c t
+      go (inl n) = sym (within_none t c t h n)
+      go (inr m) = absurd (grind arith)
 
   sound : (k c t : ℕ) → caught_within k parents c t ≡ true → Catches parents c t
   sound zero c t h = subst (λ x. Catches parents c x) (sym (eqb-true t c h)) itself

@@ -1,5 +1,5 @@
 -- Types, their parents, and which types catch a thrown one.
-use Rattle.std.specs.Prelude.{ℕ, zero, suc, ◌-◌, ◌<◌, Bool, true, false, List, ◌==◌, nat_lt, slice_index}
+use Rattle.std.specs.Prelude.{ℕ, zero, suc, ◌-◌, ◌<◌, Bool, true, false, List, Some, None, Option, ◌==◌, nat_lt, slice_index}
 
 -- "GNUCC++" and a zero byte; "LOOMPICK"
 abbrev pub tree_class : ℕ
@@ -12,6 +12,10 @@ exact_class = 0x4c4f4f4d5049434b
 -- for it, or one that is not below the type itself
 abbrev pub parent_of : List ℕ → ℕ → ℕ
 parent_of parents t = elim (nat_lt (slice_index parents (t - 1)) t) [ true ↦ slice_index parents (t - 1) | false ↦ 0 ]
+
+-- the same as an option
+abbrev pub some_parent : List ℕ → ℕ → Option ℕ
+some_parent parents t = elim (parent_of parents t == 0) [ true ↦ None | false ↦ Some (parent_of parents t) ]
 
 -- a catch type catches a thrown type: it is the type itself, or an ancestor of it
 pub data Catches (parents : List ℕ) (catch : ℕ) : ℕ → Type 0 where

@@ -1,6 +1,6 @@
 // The language whose types have parents: a type is caught by itself and by its ancestors.
-ghost use Rattle.std.specs.Prelude.{◌≡◌, Decides};
-ghost use Rattle.languages.specs.Types.{tree_class, parent_of, caught_in, Catches};
+ghost use Rattle.std.specs.Prelude.{◌≡◌, IsTrue, ◌↔◌};
+ghost use Rattle.languages.specs.Types.{tree_class, some_parent, caught_in, Catches};
 
 use crate::language::Language;
 
@@ -13,27 +13,26 @@ pub struct Tree<'a> {
 impl Tree<'_> {
     // Whether a catch type is the thrown type itself or one of its ancestors.
     pub fn is_self_or_ancestor(&self, catch: u16, thrown: u16) -> bool
-        ensures { Decides result (Catches self.now.parents.now catch thrown) }
+        ensures { IsTrue result ↔ Catches self.now.parents.now catch thrown }
     {
         self.catches(catch, thrown)
     }
 
-    // The parent of a type, 0 where it has none.
-    fn parent(&self, of: u16) -> u16
-        ensures { result ≡ parent_of self.now.parents.now of }
+    // The parent of a type, if it has one.
+    fn parent(&self, of: u16) -> Option<u16>
+        ensures { result ≡ some_parent self.now.parents.now of }
     {
-        if of == 0 {
-            return 0;
+        let index = usize::from(of).checked_sub(1)?;
+        let parent = *self.parents.get(index)?;
+        if parent != 0 && parent < of {
+            Some(parent)
+        } else {
+            None
         }
-        if self.parents.len() < of as usize {
-            return 0;
-        }
-        let parent = self.parents[of as usize - 1];
-        if parent < of { parent } else { 0 }
     }
 }
 
-impl<'a> Language for Tree<'a> {
+impl Language for Tree<'_> {
     const CLASS: u64 = 0x474e_5543_432b_2b00;
 
     ghost native = { tree_class };
@@ -45,13 +44,12 @@ impl<'a> Language for Tree<'a> {
     }
 
     fn catches(&self, catch: u16, thrown: u16) -> bool {
-        let mut t = thrown;
-        while t != catch {
-            let parent = self.parent(t);
-            if parent == 0 {
+        let mut reached = thrown;
+        while reached != catch {
+            let Some(parent) = self.parent(reached) else {
                 return false;
-            }
-            t = parent;
+            };
+            reached = parent;
         }
         true
     }

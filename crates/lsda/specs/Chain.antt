@@ -7,8 +7,7 @@ use Rattle.personality.specs.declared.verdict.Verdict.{Verdict}
 use Rattle.personality.specs.declared.verdict.Verdict.TheVariants.{Nothing, Cleanup, Handler}
 use Rattle.numbers.specs.Digits.{width_bytes}
 use Rattle.numbers.specs.Numbers.{leb128_at, fixed_at}
-use Rattle.numbers.specs.Reading.{broken, then}
-use Rattle.numbers.specs.declared.number.Number.{Number}
+use Rattle.numbers.specs.Reading.{Number, broken, then}
 use Rattle.lsda.specs.Site.{is_0}
 use Rattle.lsda.specs.Turns.{iterate}
 use Rattle.lsda.specs.declared.chain.Walk.{Walk}

@@ -7,8 +7,7 @@ use Rattle.personality.specs.declared.verdict.Question.{Question}
 use Rattle.personality.specs.declared.verdict.Verdict.{Verdict}
 use Rattle.personality.specs.declared.verdict.Verdict.TheVariants.{Nothing}
 use Rattle.numbers.specs.Numbers.{leb128_at}
-use Rattle.numbers.specs.Reading.{then}
-use Rattle.numbers.specs.declared.number.Number.{Number}
+use Rattle.numbers.specs.Reading.{Number, then}
 use Rattle.lsda.specs.Chain.{matching, hit_at, ending, onward, link_at, step_at, first_link_of}
 use Rattle.lsda.specs.Header.{header_at}
 use Rattle.lsda.specs.Site.{is_0, find_site, wanted_of}

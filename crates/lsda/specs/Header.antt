@@ -4,10 +4,8 @@ use Rattle.personality.specs.declared.fault.Cause.TheVariants.{CutShort, BadForm
 use Rattle.personality.specs.declared.fault.Fault.{Fault}
 use Rattle.numbers.specs.Formats.{format_of_code, number_at}
 use Rattle.numbers.specs.Numbers.{unsigned_at}
-use Rattle.numbers.specs.Reading.{broken, then}
+use Rattle.numbers.specs.Reading.{Number, Unsigned, broken, then}
 use Rattle.numbers.specs.declared.format.Format.{Format}
-use Rattle.numbers.specs.declared.number.Number.{Number}
-use Rattle.numbers.specs.declared.number.Unsigned.{Unsigned}
 use Rattle.numbers.specs.declared.number.Width.{Width}
 use Rattle.numbers.specs.declared.number.Width.TheVariants.{Two, Four}
 use Rattle.lsda.specs.declared.header.CallSites.{CallSites}

@@ -7,15 +7,13 @@ use Rattle.numbers.specs.declared.number.Digits.{Digits}
 use Rattle.numbers.specs.declared.format.Format.{Format}
 use Rattle.numbers.specs.declared.format.Size.{Size}
 use Rattle.numbers.specs.declared.format.Size.TheVariants.{Leb128, Fixed}
-use Rattle.numbers.specs.declared.number.Number.{Number}
-use Rattle.numbers.specs.declared.number.Unsigned.{Unsigned}
 use Rattle.numbers.specs.declared.number.Width.{Width}
 use Rattle.numbers.specs.declared.number.Width.TheVariants.{Two, Four}
 use Rattle.numbers.specs.Digits.{digits_at, above, bytes_at, width_bytes}
 use Rattle.numbers.specs.Formats.{number_at}
 use Rattle.numbers.specs.Laws.{Shaped, sum_to, digit_sum, meaning, Encodes, Means}
 use Rattle.numbers.specs.Numbers.{limit, value_of, fits, judged, leb128_at, unsigned_at}
-use Rattle.numbers.specs.Reading.{then}
+use Rattle.numbers.specs.Reading.{Number, Unsigned, then}
 use Rattle.numbers.proofs.Digit.{digits_cut, digits_last, digits_more, digits_none}
 
 -- the first term apart, and a base of the others

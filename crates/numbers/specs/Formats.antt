@@ -5,8 +5,8 @@ use Rattle.numbers.specs.Numbers.{leb128_at, fixed_at}
 use Rattle.numbers.specs.declared.format.Format.{Format}
 use Rattle.numbers.specs.declared.format.Size.{Size}
 use Rattle.numbers.specs.declared.format.Size.TheVariants.{Leb128, Fixed}
-use Rattle.numbers.specs.declared.number.Number.{Number}
 use Rattle.numbers.specs.declared.number.Width.TheVariants.{Two, Four}
+use Rattle.numbers.specs.Reading.{Number}
 
 abbrev unsigned : Size → Option Format
 unsigned size = Some (record { size = size; signed = false })

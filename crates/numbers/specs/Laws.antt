@@ -3,7 +3,7 @@ use Rattle.std.specs.Prelude.{◌≡◌, ℕ, zero, suc, ◌+◌, ◌-◌, ◌*�
 use Rattle.std.proofs.Math.IntN.{sub_ℕ}
 use Rattle.personality.specs.declared.fault.Fault.{Fault}
 use Rattle.numbers.specs.Numbers.{fits, limit}
-use Rattle.numbers.specs.declared.number.Number.{Number}
+use Rattle.numbers.specs.Reading.{Number}
 
 -- the n bytes from an offset on have the shape of a number: they may be read, and 80 is set on all but the last
 pub record Shaped (bs : List ℕ) (at n : ℕ) : Type 0 where

@@ -9,19 +9,17 @@ use personality::fault::{Cause, Fault};
 // A LEB128 number has at most this many bytes.
 pub const LIMIT: usize = 5;
 
-// A number and the offset after it.
+// What was read, and the offset after it.
 #[derive(Clone, Copy, PartialEq, Eq, Debug)]
-pub struct Number {
-    pub value: i64,
+pub struct Read<T> {
+    pub value: T,
     pub next: usize,
 }
 
-// A number that has no sign, and the offset after it.
-#[derive(Clone, Copy, PartialEq, Eq, Debug)]
-pub struct Unsigned {
-    pub value: u32,
-    pub next: usize,
-}
+pub type Number = Read<i64>;
+
+// A number that has no sign.
+pub type Unsigned = Read<u32>;
 
 // How many bytes a number of a fixed size has.
 #[derive(Clone, Copy, PartialEq, Eq, Debug)]

@@ -4,7 +4,7 @@ use Rattle.personality.specs.declared.verdict.Question.{Question}
 use Rattle.personality.specs.declared.verdict.Verdict.{Verdict}
 use Rattle.personality.specs.declared.verdict.Verdict.TheVariants.{Cleanup, Handler}
 use Rattle.numbers.specs.Numbers.{leb128_at}
-use Rattle.numbers.specs.declared.number.Number.{Number}
+use Rattle.numbers.specs.Reading.{Number}
 use Rattle.lsda.specs.Chain.{entry_at, first_link_of, matching}
 use Rattle.lsda.specs.Header.{header_at}
 use Rattle.lsda.specs.Site.{find_site, wanted_of}

@@ -1,23 +1,12 @@
-use Rattle.std.proofs.Common.{◌≡◌, arith}
-use Rattle.languages.specs.Types.{parent_of}
-use Rattle.languages.proofs.Caught.{caught_up, caught_self, caught_none}
+use Rattle.std.proofs.Common.{sym, ◌∙◌, arith}
+use Rattle.languages.proofs.Caught.{caught_by_parent, caught_self, caught_none}
 use Rattle.languages.proofs.tree.TreeLanguage.catches.Goals as goal
 
-pub returns-then-parent-eq0 : goal.returns-then-parent-eq0
-returns-then-parent-eq0 c =
-    let parents = c.args.self.now.parents.now in
-    let e : parent_of parents c.loop-t.t ≡ 0 = omega (arith, c.parent-parent.ensures) in
-    let n = caught_none parents c.args.catch c.loop-t.t (λ e. omega arith) e in
-    cc
+pub returns-in_default : goal.returns-in_default
+returns-in_default c = caught_none _ c.args.catch c.loop-reached.reached (λ e. omega arith) c.in_default.ensures ∙ c.loop-reached.invariant
 
-pub loop-t-preserved : goal.loop-t-preserved
-loop-t-preserved c =
-    let parents = c.args.self.now.parents.now in
-    let u = caught_up parents c.args.catch c.loop-t.t (λ e. omega arith) (λ e. omega (arith, c.parent-parent.ensures)) in
-    cc
+pub loop-reached-preserved : goal.loop-reached-preserved
+loop-reached-preserved c = caught_by_parent _ c.args.catch c.loop-reached.reached c.in-Some.parent (λ e. omega arith) c.in-Some.ensures ∙ c.loop-reached.invariant
 
 pub returns : goal.returns
-returns c =
-    let parents = c.args.self.now.parents.now in
-    let s = caught_self parents c.args.catch c.loop-t.t (omega arith) in
-    cc
+returns c = sym (caught_self _ c.args.catch c.loop-reached.reached (omega arith)) ∙ c.loop-reached.invariant
