@@ -1,41 +1,57 @@
-// The leaves that a tree may have.
+// The leaves that a tree may have. They own their lists, and lend them to be asked.
 ghost use Rattle.std.specs.Prelude.{◌≡◌};
-ghost use Rattle.composed.specs.Leaf.{leaf_verdict};
+ghost use Rattle.composed.specs.Leaf.{table_in, leaf_verdict};
+ghost use Rattle.lsda.specs.Forced.{harmless};
 ghost use Rattle.std.proofs.Common.{rules};
 
 use languages::exact::Exact;
-use lsda::leaf::{Lsda, Sjlj};
+use languages::tree::Tree;
+use lsda::leaf::Table;
 use personality::interface::Personality;
 use personality::layers::Release;
 use personality::verdict::{Question, Verdict};
 
-// Over the types of its tables, so that what they mean, and that a forced question gets no harm from them, comes by
-// their bounds.
 #[derive(Drop)]
-pub enum AnyLeaf<LT, LE, ST, SE> {
-    Release(Release),
-    LsdaTree(LT),
-    LsdaExact(LE),
-    SjljTree(ST),
-    SjljExact(SE),
+pub enum AnyLanguage {
+    // the parents of the types from 1 on
+    Tree(Vec<u16>),
+    Exact,
 }
 
-// T is the language with parents.
-pub type Leaf<T> = AnyLeaf<Lsda<T>, Lsda<Exact>, Sjlj<T>, Sjlj<Exact>>;
+#[derive(Drop)]
+pub enum Leaf {
+    Release(Release),
+    Table(Table<AnyLanguage>),
+}
 
-impl<LT: Personality, LE: Personality, ST: Personality, SE: Personality> Personality
-    for AnyLeaf<LT, LE, ST, SE> {
-    ghost verdict = { leaf_verdict LT.Personality.verdict LE.Personality.verdict ST.Personality.verdict SE.Personality.verdict };
+// The same table, in a language.
+fn in_language<L>(table: &Table<AnyLanguage>, language: L) -> Table<L>
+    ensures { result ≡ table_in table.now language }
+{
+    Table {
+        layout: table.layout,
+        start: table.start,
+        length: table.length,
+        function: table.function,
+        language,
+    }
+}
 
-    ghost forced = { Prim.search rules };
+impl Personality for Leaf {
+    ghost verdict = { leaf_verdict };
+
+    ghost forced = { Prim.search (rules, harmless) };
 
     fn ask(&self, image: &[u8], question: Question) -> Verdict {
         match self {
-            AnyLeaf::Release(leaf) => leaf.ask(image, question),
-            AnyLeaf::LsdaTree(leaf) => leaf.ask(image, question),
-            AnyLeaf::LsdaExact(leaf) => leaf.ask(image, question),
-            AnyLeaf::SjljTree(leaf) => leaf.ask(image, question),
-            AnyLeaf::SjljExact(leaf) => leaf.ask(image, question),
+            Leaf::Release(release) => release.ask(image, question),
+            Leaf::Table(table) => match &table.language {
+                AnyLanguage::Tree(parents) => {
+                    let parents = parents.as_slice();
+                    in_language(table, Tree { parents }).ask(image, question)
+                }
+                AnyLanguage::Exact => in_language(table, Exact).ask(image, question),
+            },
         }
     }
 }

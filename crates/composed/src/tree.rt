@@ -36,33 +36,24 @@ impl<P: Drop> Composed<P> {
     }
 }
 
-impl<P: Personality> Composed<P> {
-    // `ask` as a function of its own: the body of a trait's method cannot call itself.
-    fn answer(&self, image: &[u8], question: Question) -> Verdict
-        ensures { result ≡ composed_verdict P.Personality.verdict self.now image.now question }
-    {
-        match self {
-            Composed::Leaf(leaf) => leaf.ask(image, question),
-            Composed::Pair(first, second) => {
-                let half = question.halve();
-                let verdict = if question.unit % 2 == 0 {
-                    first.answer(image, half)
-                } else {
-                    second.answer(image, half)
-                };
-                verdict.pass_up()
-            }
-            Composed::Guest(below) => below.answer(image, question.press()).pass_up(),
-        }
-    }
-}
-
 impl<P: Personality> Personality for Composed<P> {
     ghost verdict = { composed_verdict P.Personality.verdict };
 
     ghost forced = { λ x image q f. harmless P.Personality.verdict P.Personality.forced x image q f };
 
     fn ask(&self, image: &[u8], question: Question) -> Verdict {
-        self.answer(image, question)
+        match self {
+            Composed::Leaf(leaf) => leaf.ask(image, question),
+            Composed::Pair(first, second) => {
+                let half = question.halve();
+                let verdict = if question.unit % 2 == 0 {
+                    first.ask(image, half)
+                } else {
+                    second.ask(image, half)
+                };
+                verdict.pass_up()
+            }
+            Composed::Guest(below) => below.ask(image, question.press()).pass_up(),
+        }
     }
 }

@@ -1,5 +1,7 @@
 -- Action chains, over the bytes bs from the image's start to the table's end.
 use Rattle.std.specs.Prelude.{ℕ, ◌+◌, ◌-◌, ◌*◌, Bool, true, false, ◌&&◌, ◌||◌, List, length, ℤ, pos, negsuc, ◌+ℤ◌, Some, None, Ok, Option, Result, ◌==◌, nat_le, nat_lt}
+use Rattle.std.specs.declared.ops.ControlFlow.{ControlFlow}
+use Rattle.std.specs.declared.ops.ControlFlow.TheVariants.{Continue, Break}
 use Rattle.personality.specs.declared.fault.Cause.TheVariants.{BadLink, BadTypeEntry}
 use Rattle.personality.specs.declared.fault.Fault.{Fault}
 use Rattle.personality.specs.declared.verdict.Question.{Question}
@@ -14,8 +16,6 @@ use Rattle.lsda.specs.declared.chain.Walk.{Walk}
 use Rattle.lsda.specs.declared.header.Header.{Header}
 use Rattle.lsda.specs.declared.header.TypeTable.{TypeTable}
 use Rattle.lsda.specs.declared.site.Action.{Action}
-use Rattle.lsda.specs.declared.turn.Turn.{Turn}
-use Rattle.lsda.specs.declared.turn.Turn.TheVariants.{Done, Next}
 
 -- a type has 16 bits; the faults of a type entry are at the filter that names it
 abbrev pub type_of : Number → ℕ → Result ℕ Fault
@@ -56,26 +56,26 @@ abbrev pub ending : Bool → ℕ → Verdict
 ending noted pad = elim noted [ true ↦ Cleanup pad | false ↦ Nothing ]
 
 -- what follows a link that does not match: displacement 0 ends the chain, another is counted from its own first byte
-abbrev pub onward : ℕ → Bool → Number → Number → Turn Walk Verdict
+abbrev pub onward : ℕ → Bool → Number → Number → ControlFlow Verdict Walk
 onward pad noted filter displacement =
     elim (is_0 displacement.value) [
-      | true ↦ Done (ending noted pad)
-      | false ↦ Next (record { at = pos filter.next +ℤ displacement.value; from = filter.next; noted = noted })
+      | true ↦ Break (ending noted pad)
+      | false ↦ Continue (record { at = pos filter.next +ℤ displacement.value; from = filter.next; noted = noted })
     ]
 
 -- the link at an offset: both numbers are read, then the filter is judged, then the displacement
-abbrev pub link_at : List ℕ → ℕ → Option TypeTable → (ℕ → Bool) → Bool → ℕ → Bool → ℕ → Result (Turn Walk Verdict) Fault
+abbrev pub link_at : List ℕ → ℕ → Option TypeTable → (ℕ → Bool) → Bool → ℕ → Bool → ℕ → Result (ControlFlow Verdict Walk) Fault
 link_at bs start types matches forced pad noted at =
     then (leb128_at bs true at) (λ filter.
     then (leb128_at bs true filter.next) (λ displacement.
     then (hit_at bs start types matches forced filter.value at) (λ hit.
     elim hit [
-      | true ↦ Ok (Done (Handler pad filter.value))
+      | true ↦ Ok (Break (Handler pad filter.value))
       | false ↦ Ok (onward pad (noted || is_0 filter.value) filter displacement)
     ])))
 
 -- a link starts in the action table, which goes from the end of the call-site table to the table's end
-abbrev pub step_at : List ℕ → ℕ → Header → (ℕ → Bool) → Bool → ℕ → Walk → Result (Turn Walk Verdict) Fault
+abbrev pub step_at : List ℕ → ℕ → Header → (ℕ → Bool) → Bool → ℕ → Walk → Result (ControlFlow Verdict Walk) Fault
 step_at bs start h matches forced pad w =
     elim w.at [
       | pos at ↦ elim (nat_le h.sites.end at && nat_lt at (length bs)) [

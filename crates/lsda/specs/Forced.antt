@@ -1,5 +1,7 @@
 -- A forced question gets neither a handler nor a termination from a table.
 use Rattle.std.specs.Prelude.{◌≡◌, ℕ, zero, suc, Bool, true, false, ◌&&◌, ◌||◌, List, length, take, ℤ, pos, negsuc, ◌+ℤ◌, IfOk, Some, None, Ok, Err, Option, Result, ◌==◌, nat_le, nat_lt, refl}
+use Rattle.std.specs.declared.ops.ControlFlow.{ControlFlow}
+use Rattle.std.specs.declared.ops.ControlFlow.TheVariants.{Continue, Break}
 use Rattle.personality.specs.Layers.{in_unit_0}
 use Rattle.personality.specs.Verdicts.{Harmless}
 use Rattle.personality.specs.declared.fault.Fault.{Fault}
@@ -15,12 +17,9 @@ use Rattle.lsda.specs.Turns.{iterate}
 use Rattle.lsda.specs.Verdict.{table_bytes, unlisted, landed, judged_at, verdict_of, leaf_verdict}
 use Rattle.lsda.specs.declared.chain.Walk.{Walk}
 use Rattle.lsda.specs.declared.header.Header.{Header}
-use Rattle.lsda.specs.declared.header.Layout.{Layout}
 use Rattle.lsda.specs.declared.leaf.Table.{Table}
 use Rattle.lsda.specs.declared.site.Site.{Site}
 use Rattle.lsda.specs.declared.site.Wanted.{Wanted}
-use Rattle.lsda.specs.declared.turn.Turn.{Turn}
-use Rattle.lsda.specs.declared.turn.Turn.TheVariants.{Done, Next}
 
 -- what holds of each good answer of f holds of the answer after r
 made_then : {A B : Type 0} (P : B → Type 0) (r : Result A Fault) (f : A → Result B Fault) → ((x : A) → IfOk (f x) P) → IfOk (then r f) P
@@ -32,8 +31,8 @@ made_test P true x y h k = h
 made_test P false x y h k = k
 
 -- a turn that answers gives no harm
-abbrev Quiet : Turn Walk Verdict → Type 0
-Quiet t = elim t [ Done verdict ↦ Harmless verdict | Next _ ↦ Unit {0} ]
+abbrev Quiet : ControlFlow Verdict Walk → Type 0
+Quiet t = elim t [ Break verdict ↦ Harmless verdict | Continue _ ↦ Unit {0} ]
 
 ending_harmless : (noted : Bool) (pad : ℕ) → Harmless (ending noted pad)
 ending_harmless true pad = tt
@@ -47,7 +46,7 @@ module _ (bs : List ℕ) (start : ℕ) (h : Header) (matches : ℕ → Bool) (pa
   onward_quiet : (noted : Bool) (f d : Number) → Quiet (onward pad noted f d)
   onward_quiet noted f d = go (is_0 d.value)
     where
-      go : (b : Bool) → Quiet (elim b [ true ↦ Done (ending noted pad) | false ↦ Next (record { at = pos f.next +ℤ d.value; from = f.next; noted = noted }) ])
+      go : (b : Bool) → Quiet (elim b [ true ↦ Break (ending noted pad) | false ↦ Continue (record { at = pos f.next +ℤ d.value; from = f.next; noted = noted }) ])
       go true = ending_harmless noted pad
       go false = tt
 
@@ -68,14 +67,14 @@ module _ (bs : List ℕ) (start : ℕ) (h : Header) (matches : ℕ → Bool) (pa
       go (negsuc p) = tt
 
 -- what each turn keeps, the loop answers
-made_iterate : {S A : Type 0} (P : A → Type 0) (turn : S → Result (Turn S A) Fault) (last : S → Result A Fault) → ((s : S) → IfOk (turn s) (λ t. elim t [ Done a ↦ P a | Next _ ↦ Unit {0} ])) → ((s : S) → IfOk (last s) P) → (k : ℕ) (s : S) → IfOk (iterate turn last k s) P
+made_iterate : {S A : Type 0} (P : A → Type 0) (turn : S → Result (ControlFlow A S) Fault) (last : S → Result A Fault) → ((s : S) → IfOk (turn s) (λ t. elim t [ Break a ↦ P a | Continue _ ↦ Unit {0} ])) → ((s : S) → IfOk (last s) P) → (k : ℕ) (s : S) → IfOk (iterate turn last k s) P
 unfolding iterate
 made_iterate P turn last h e zero s = e s
 made_iterate {S} {A} P turn last h e (suc k) s = go (turn s) (h s) (made_iterate P turn last h e k)
   where
-    go : (r : Result (Turn S A) Fault) → IfOk r (λ t. elim t [ Done a ↦ P a | Next _ ↦ Unit {0} ]) → ((t : S) → IfOk (iterate turn last k t) P) → IfOk (then r (λ t. elim t [ Done a ↦ Ok a | Next n ↦ iterate turn last k n ])) P
-    go (Ok (Done v)) q ih = q
-    go (Ok (Next t)) q ih = ih t
+    go : (r : Result (ControlFlow A S) Fault) → IfOk r (λ t. elim t [ Break a ↦ P a | Continue _ ↦ Unit {0} ]) → ((t : S) → IfOk (iterate turn last k t) P) → IfOk (then r (λ t. elim t [ Break a ↦ Ok a | Continue n ↦ iterate turn last k n ])) P
+    go (Ok (Break v)) q ih = q
+    go (Ok (Continue t)) q ih = ih t
     go (Err x) q ih = tt
 
 landed_harmless : (bs : List ℕ) (start : ℕ) (h : Header) (matches : ℕ → Bool) (s : Site) → IfOk (landed bs start h matches true s) Harmless
@@ -98,11 +97,11 @@ unit_harmless q v h = go (q.unit == 0) refl
     go true e = rw e h
     go false e = rw e tt
 
-pub harmless : {L : Type 0} (native : ℕ) (caught : ℕ → ℕ → Bool) (layout : Layout) (t : Table L) (image : List ℕ) (q : Question) → q.forced ≡ true → Harmless (leaf_verdict native caught layout t image q)
-harmless native caught layout t image q e =
-    unit_harmless q _ (verdict_harmless (judged_at native caught layout t image q)
+pub harmless : {L : Type 0} (native : ℕ) (caught : ℕ → ℕ → Bool) (t : Table L) (image : List ℕ) (q : Question) → q.forced ≡ true → Harmless (leaf_verdict native caught t image q)
+harmless native caught t image q e =
+    unit_harmless q _ (verdict_harmless (judged_at native caught t image q)
     (made_then Harmless (table_bytes image t.start t.length) _ (λ bs.
-    made_then Harmless (header_at bs layout t.start t.function) _ (λ h. seek bs h (wanted_of layout q.place)))))
+    made_then Harmless (header_at bs t.layout t.start t.function) _ (λ h. seek bs h (wanted_of t.layout q.place)))))
   where
     found : (bs : List ℕ) (h : Header) (o : Option Site) → IfOk (elim o [ None ↦ Ok (unlisted q.forced) | Some s ↦ landed bs t.start h (matching native caught q) q.forced s ]) Harmless
     found bs h None = rw e tt

@@ -1,11 +1,12 @@
 -- The header of a table, over the bytes bs from the image's start to the table's end.
-use Rattle.std.specs.Prelude.{ℕ, ◌+◌, ◌^◌, ◌<◌, ◌≤◌, Bool, true, false, not, ◌&&◌, ◌||◌, List, length, pos, negsuc, Some, None, Ok, Option, Result, ◌==◌, nat_le, nat_lt, slice_index}
+use Rattle.std.specs.Prelude.{ℕ, ◌+◌, ◌^◌, ◌<◌, ◌≤◌, Bool, true, false, not, ◌&&◌, ◌||◌, List, length, pos, negsuc, IfSome, Some, None, Ok, Option, Result, ◌==◌, nat_le, nat_lt, slice_index}
 use Rattle.personality.specs.declared.fault.Cause.TheVariants.{CutShort, BadFormat, PastCallSites, BadAddress}
 use Rattle.personality.specs.declared.fault.Fault.{Fault}
 use Rattle.numbers.specs.Formats.{format_of_code, number_at}
 use Rattle.numbers.specs.Numbers.{unsigned_at}
 use Rattle.numbers.specs.Reading.{Number, Unsigned, broken, then}
 use Rattle.numbers.specs.declared.format.Format.{Format}
+use Rattle.numbers.specs.declared.number.Read.{Read}
 use Rattle.numbers.specs.declared.number.Width.{Width}
 use Rattle.numbers.specs.declared.number.Width.TheVariants.{Two, Four}
 use Rattle.lsda.specs.declared.header.CallSites.{CallSites}
@@ -13,7 +14,6 @@ use Rattle.lsda.specs.declared.header.Header.{Header}
 use Rattle.lsda.specs.declared.header.Layout.{Layout}
 use Rattle.lsda.specs.declared.header.Layout.TheVariants.{Lsda, Sjlj}
 use Rattle.lsda.specs.declared.header.TypeTable.{TypeTable}
-use Rattle.lsda.specs.declared.header.Types.{Types}
 
 abbrev pub byte_at : List ℕ → ℕ → Result ℕ Fault
 byte_at bs at = elim (nat_lt at (length bs)) [ true ↦ Ok (slice_index bs at) | false ↦ broken CutShort at ]
@@ -40,12 +40,12 @@ abbrev pub type_width : ℕ → ℕ → Result Width Fault
 type_width code at = elim (code == 0 || code == 3) [ true ↦ Ok Four | false ↦ elim (code == 2) [ true ↦ Ok Two | false ↦ broken BadFormat at ] ]
 
 -- the type table: ff stands for none; its base is counted from the byte after the field
-abbrev pub types_at : List ℕ → ℕ → Result Types Fault
+abbrev pub types_at : List ℕ → ℕ → Result (Read (Option TypeTable)) Fault
 types_at bs at =
     then (byte_at bs at) (λ code.
     elim (code == 255) [
-      | true ↦ Ok (record { table = None; next = at + 1 })
-      | false ↦ then (type_width code at) (λ width. then (unsigned_at bs (at + 1)) (λ n. Ok (record { table = Some (record { width = width; base = n.next + n.value }); next = n.next })))
+      | true ↦ Ok (record { value = None; next = at + 1 })
+      | false ↦ then (type_width code at) (λ width. then (unsigned_at bs (at + 1)) (λ n. Ok (record { value = Some (record { width = width; base = n.next + n.value }); next = n.next })))
     ])
 
 abbrev pub numbered : Layout → Bool
@@ -72,12 +72,11 @@ header_at bs layout start function =
     then (landing_at bs function start) (λ landing.
     then (types_at bs landing.next) (λ types.
     then (sites_at bs layout types.next) (λ sites.
-    Ok (record { landing = landing.value; types = types.table; sites = sites }))))
+    Ok (record { landing = landing.value; types = types.value; sites = sites }))))
 
 -- a type base that was read is small enough to count from
 abbrev pub Near : Option TypeTable → Type 0
-Near None = Unit {0}
-Near (Some types) = types.base < 2 ^ 34
+Near types = IfSome types (λ t. t.base < 2 ^ 34)
 
 -- what a header that was read gives to the readers of what follows it
 pub record Sound (bs : List ℕ) (h : Header) : Type 0 where

@@ -12,7 +12,6 @@ use Rattle.lsda.specs.Chain.{chain_at, first_link_of, matching}
 use Rattle.lsda.specs.Header.{header_at}
 use Rattle.lsda.specs.Site.{find_site, wanted_of}
 use Rattle.lsda.specs.declared.header.Header.{Header}
-use Rattle.lsda.specs.declared.header.Layout.{Layout}
 use Rattle.lsda.specs.declared.leaf.Table.{Table}
 use Rattle.lsda.specs.declared.site.Site.{Site}
 
@@ -38,11 +37,11 @@ landed bs start h matches forced site =
     ]
 
 -- a place that asks for nothing gets nothing, once the header is read
-abbrev pub judged_at : {L : Type 0} → ℕ → (ℕ → ℕ → Bool) → Layout → Table L → List ℕ → Question → Result Verdict Fault
-judged_at native caught layout t image q =
+abbrev pub judged_at : {L : Type 0} → ℕ → (ℕ → ℕ → Bool) → Table L → List ℕ → Question → Result Verdict Fault
+judged_at native caught t image q =
     then (table_bytes image t.start t.length) (λ bs.
-    then (header_at bs layout t.start t.function) (λ h.
-    elim (wanted_of layout q.place) [
+    then (header_at bs t.layout t.start t.function) (λ h.
+    elim (wanted_of t.layout q.place) [
       | None ↦ Ok Nothing
       | Some wanted ↦ then (find_site (take h.sites.end bs) h t.function wanted) (λ found.
           elim found [
@@ -57,5 +56,5 @@ verdict_of (Ok verdict) = verdict
 verdict_of (Err fault) = Broken fault
 
 -- the verdict of a leaf: `native` is its language's class, and `caught` which types catch a thrown one
-abbrev pub leaf_verdict : {L : Type 0} → ℕ → (ℕ → ℕ → Bool) → Layout → Table L → List ℕ → Question → Verdict
-leaf_verdict native caught layout t image q = in_unit_0 q (verdict_of (judged_at native caught layout t image q))
+abbrev pub leaf_verdict : {L : Type 0} → ℕ → (ℕ → ℕ → Bool) → Table L → List ℕ → Question → Verdict
+leaf_verdict native caught t image q = in_unit_0 q (verdict_of (judged_at native caught t image q))

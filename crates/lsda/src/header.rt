@@ -3,11 +3,11 @@ ghost use Rattle.std.specs.Prelude.{◌≡◌, ◌^◌, ◌<◌, ◌≤◌, leng
 ghost use Rattle.lsda.specs.Header.{byte_at, format_at, natural, landing_at, type_width, types_at, site_format, sites_at, header_at, Near, Sound};
 
 use numbers::format::{Format, decode_format, read_number};
-use numbers::number::{Number, Unsigned, Width, read_unsigned};
+use numbers::number::{Number, Read, Unsigned, Width, read_unsigned};
 use personality::fault::{Cause, Fault};
 
 // How a table lists its call sites: by ranges of places, or by number.
-#[derive(Clone, Copy, PartialEq, Eq)]
+#[derive(Clone, Copy, PartialEq, Eq, Debug)]
 pub enum Layout {
     Lsda,
     Sjlj,
@@ -18,13 +18,6 @@ pub enum Layout {
 pub struct TypeTable {
     pub width: Width,
     pub base: usize,
-}
-
-// The type table, where there is one, and the offset after its field.
-#[derive(Clone, Copy)]
-pub struct Types {
-    pub table: Option<TypeTable>,
-    pub next: usize,
 }
 
 // The call sites' format, where they begin, and where they end: there the action table begins.
@@ -46,20 +39,13 @@ fn read_byte(bytes: &[u8], at: usize) -> Result<u8, Fault>
     ensures is { result ≡ byte_at bytes.now at }
     ensures within { OnOk result (at < length bytes.now) }
 {
-    if at < bytes.len() {
-        Ok(bytes[at])
-    } else {
-        Err(Fault::at(Cause::CutShort, at))
-    }
+    bytes.get(at).copied().ok_or(Fault::at(Cause::CutShort, at))
 }
 
 fn format_of(code: u8, at: usize) -> Result<Format, Fault>
     ensures { result ≡ format_at code at }
 {
-    match decode_format(code) {
-        Some(format) => Ok(format),
-        None => Err(Fault::at(Cause::BadFormat, at)),
-    }
+    decode_format(code).ok_or(Fault::at(Cause::BadFormat, at))
 }
 
 // An address is not negative.
@@ -71,7 +57,7 @@ fn non_negative(number: Number, at: usize) -> Result<Unsigned, Fault>
     if number.value < 0 {
         Err(Fault::at(Cause::BadAddress, at))
     } else {
-        Ok(Unsigned {
+        Ok(Read {
             value: number.value as u32,
             next: number.next,
         })
@@ -85,7 +71,7 @@ fn read_landing(bytes: &[u8], at: usize, function: u32) -> Result<Unsigned, Faul
 {
     let code = read_byte(bytes, at)?;
     if code == 0xff {
-        return Ok(Unsigned {
+        return Ok(Read {
             value: function,
             next: at + 1,
         });
@@ -105,23 +91,24 @@ fn type_entry_width(code: u8, at: usize) -> Result<Width, Fault>
     }
 }
 
-fn read_types(bytes: &[u8], at: usize) -> Result<Types, Fault>
+// The type table, where there is one.
+fn read_types(bytes: &[u8], at: usize) -> Result<Read<Option<TypeTable>>, Fault>
     requires { length bytes.now < 2 ^ 33 }
     ensures is { result ≡ types_at bytes.now at }
-    ensures within { IfOk result (λ t. (t.next ≤ length bytes.now) × Near t.table) }
+    ensures within { IfOk result (λ t. (t.next ≤ length bytes.now) × Near t.value) }
 {
     let code = read_byte(bytes, at)?;
     if code == 0xff {
-        return Ok(Types {
-            table: None,
+        return Ok(Read {
+            value: None,
             next: at + 1,
         });
     }
     let width = type_entry_width(code, at)?;
     let offset = read_unsigned(bytes, at + 1)?;
     let base = offset.next + offset.value as usize;
-    Ok(Types {
-        table: Some(TypeTable { width, base }),
+    Ok(Read {
+        value: Some(TypeTable { width, base }),
         next: offset.next,
     })
 }
@@ -168,7 +155,7 @@ pub(crate) fn read_header(
     let sites = read_sites(bytes, types.next, layout)?;
     Ok(Header {
         landing: landing.value,
-        types: types.table,
+        types: types.value,
         sites,
     })
 }

@@ -1,4 +1,4 @@
-// The leaves that read exception tables: GCC's language-specific data areas, with call sites by range (LSDA) or by number
+// The leaf that reads an exception table: GCC's language-specific data area, with call sites by range (LSDA) or by number
 // (SJLJ). One text reads both, for every language.
 #![tactic(auto)]
 
@@ -6,4 +6,5 @@ mod chain;
 mod header;
 pub mod leaf;
 mod site;
-mod turn;
+
+pub use header::Layout;

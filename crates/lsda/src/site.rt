@@ -1,12 +1,12 @@
-// Call sites: reading their records, and finding the one of a place. `bytes` end where the call-site table does.
+// Call sites: reading their records, and finding the one of a place.
 ghost use Rattle.std.specs.Prelude.{◌≡◌, ◌^◌, ◌<◌, ◌≤◌, length, pos, negsuc, ◌≤ℤ◌, ◌<ℤ◌, IfOk, Ok};
-ghost use Rattle.lsda.specs.Site.{recut, in_record_at, address, fields_at, judged_fields, ranged_at, numbered_at, ranged_turn, look, find_site, wanted_of, Readable};
+ghost use Rattle.lsda.specs.Site.{recut, in_record_at, address, fields_at, judged_fields, ranged_at, numbered_at, ranged_turn, numbered_turn, look, find_site, wanted_of, Readable};
 
 use crate::header::{Header, Layout};
-use crate::turn::Turn;
 use numbers::format::read_number;
-use numbers::number::{Number, Unsigned, read_unsigned};
+use numbers::number::{Number, Read, Unsigned, read_unsigned};
 use personality::fault::{Cause, Fault};
+use std::ops::ControlFlow;
 
 // An action, and the offset where it stands: 0 is a cleanup, another names the first link of a chain.
 #[derive(Clone, Copy)]
@@ -22,20 +22,12 @@ pub struct Site {
     pub action: Action,
 }
 
-// A call site of the places from `from` to below `to`, and the offset after its record.
+// A call site of the places from `from` to below `to`.
 #[derive(Clone, Copy)]
 pub struct Ranged {
     pub from: u32,
     pub to: u32,
     pub site: Site,
-    pub next: usize,
-}
-
-// A numbered call site, and the offset after its record.
-#[derive(Clone, Copy)]
-pub struct Numbered {
-    pub site: Site,
-    pub next: usize,
 }
 
 // The numbers of a record of ranges, as they stand there.
@@ -75,15 +67,13 @@ fn in_record<T>(read: Result<T, Fault>, first: usize) -> Result<T, Fault>
     ensures is { result ≡ in_record_at read first }
     ensures good { IfOk result (λ n. read ≡ Ok n) }
 {
-    match read {
-        Ok(number) => Ok(number),
-        Err(fault) => Err(past_call_sites(fault, first)),
-    }
+    read.map_err(|fault| past_call_sites(fault, first))
 }
 
 // base + value, for a field at an offset: neither negative nor above 32 bits.
 fn make_address(base: u32, value: i64, at: usize) -> Result<u32, Fault>
-    requires { (value <ℤ pos 4294967296) × (negsuc 2147483647 ≤ℤ value) }
+    requires above { negsuc 2147483647 ≤ℤ value }
+    requires below { value <ℤ pos 4294967296 }
     ensures { result ≡ address base value at }
 {
     if value < 0 {
@@ -96,152 +86,154 @@ fn make_address(base: u32, value: i64, at: usize) -> Result<u32, Fault>
     Ok(sum as u32)
 }
 
-// The fields of the record at an offset.
-fn read_fields(bytes: &[u8], header: &Header, at: usize) -> Result<Fields, Fault>
-    ensures is { result ≡ fields_at bytes.now header.now.sites.format at }
-    ensures within { IfOk result Readable }
-{
-    let format = header.sites.format;
-    let start = in_record(read_number(bytes, at, format), at)?;
-    let length = in_record(read_number(bytes, start.next, format), at)?;
-    let pad = in_record(read_number(bytes, length.next, format), at)?;
-    let action = in_record(read_unsigned(bytes, pad.next), at)?;
-    Ok(Fields {
-        start,
-        length,
-        pad,
-        action,
-    })
-}
-
-// The record that fields make: start, length and pad are judged in this order.
-fn judge_fields(header: &Header, function: u32, at: usize, f: Fields) -> Result<Ranged, Fault>
-    requires { Readable f }
-    ensures { result ≡ judged_fields header.now.landing function at f }
-{
-    let from = make_address(function, f.start.value, at)?;
-    let to = make_address(from, f.length.value, f.start.next)?;
-    let pad = make_address(header.landing, f.pad.value, f.length.next)?;
-    let pad = if f.pad.value == 0 { None } else { Some(pad) };
-    let site = Site {
-        pad,
-        action: Action {
-            value: f.action.value,
-            at: f.pad.next,
-        },
-    };
-    Ok(Ranged {
-        from,
-        to,
-        site,
-        next: f.action.next,
-    })
-}
-
-fn read_ranged(bytes: &[u8], header: &Header, function: u32, at: usize) -> Result<Ranged, Fault>
-    ensures { result ≡ ranged_at bytes.now header.now function at }
-{
-    let fields = read_fields(bytes, header, at)?;
-    judge_fields(header, function, at, fields)
-}
-
-// A numbered record holds its pad less one.
-fn read_numbered(bytes: &[u8], at: usize) -> Result<Numbered, Fault>
-    ensures { result ≡ numbered_at bytes.now at }
-{
-    let pad = in_record(read_unsigned(bytes, at), at)?;
-    let action = in_record(read_unsigned(bytes, pad.next), at)?;
-    if pad.value == u32::MAX {
-        return Err(Fault::at(Cause::BadAddress, at));
-    }
-    let site = Site {
-        pad: Some(pad.value + 1),
-        action: Action {
-            value: action.value,
-            at: pad.next,
-        },
-    };
-    Ok(Numbered {
-        site,
-        next: action.next,
-    })
-}
-
-// The record at the search's offset, and then whether it is the one.
-fn look_at(
-    bytes: &[u8],
-    header: &Header,
-    function: u32,
-    search: Search,
-) -> Result<Turn<Search, Option<Site>>, Fault>
-    ensures { result ≡ look bytes.now header.now function search }
-{
-    if search.at >= bytes.len() {
-        return Ok(Turn::Done(None));
-    }
-    match search.wanted {
-        Wanted::Place(place) => {
-            let record = read_ranged(bytes, header, function, search.at)?;
-            Ok(record.judge(place))
-        }
-        Wanted::Nth(n) => {
-            if n == 0 {
-                return Ok(Turn::Done(None));
-            }
-            let record = read_numbered(bytes, search.at)?;
-            if n == 1 {
-                return Ok(Turn::Done(Some(record.site)));
-            }
-            Ok(Turn::Next(Search {
-                at: record.next,
-                wanted: Wanted::Nth(n - 1),
-            }))
-        }
-    }
-}
-
 impl Ranged {
-    // A place below the record is unlisted, one below the record's end is the record's, and another is looked for further on.
-    fn judge(self, place: u32) -> Turn<Search, Option<Site>>
-        ensures { result ≡ ranged_turn place self }
+    // A place below the record is unlisted, one below the record's end is the record's, and another is looked for from
+    // `next` on.
+    fn judge(self, place: u32, next: usize) -> ControlFlow<Option<Site>, Search>
+        ensures { result ≡ ranged_turn place (record { value = self; next = next }) }
     {
         if place < self.from {
-            return Turn::Done(None);
+            return ControlFlow::Break(None);
         }
         if place < self.to {
-            return Turn::Done(Some(self.site));
+            return ControlFlow::Break(Some(self.site));
         }
-        Turn::Next(Search {
-            at: self.next,
+        ControlFlow::Continue(Search {
+            at: next,
             wanted: Wanted::Place(place),
         })
     }
 }
 
-// The call site that is wanted, None where the place is unlisted. A record has a byte or more, so that as many turns as
-// there are bytes are enough.
-pub(crate) fn find(
-    bytes: &[u8],
-    header: &Header,
-    function: u32,
-    wanted: Wanted,
-) -> Result<Option<Site>, Fault>
-    requires { header.now.sites.at ≤ header.now.sites.end }
-    ensures { result ≡ find_site bytes.now header.now function wanted }
+// The n-th call site from a record on: that record's, or one that is looked for from `next` on.
+fn judge_numbered(n: u32, site: Read<Site>) -> ControlFlow<Option<Site>, Search>
+    requires { 0 < n }
+    ensures { result ≡ numbered_turn n site }
 {
-    let turns = header.sites.end - header.sites.at;
-    let mut search = Search {
-        at: header.sites.at,
-        wanted,
-    };
-    for _i in 0..turns {
-        let turn = look_at(bytes, header, function, search)?;
-        match turn {
-            Turn::Done(site) => return Ok(site),
-            Turn::Next(next) => search = next,
+    if n == 1 {
+        return ControlFlow::Break(Some(site.value));
+    }
+    ControlFlow::Continue(Search {
+        at: site.next,
+        wanted: Wanted::Nth(n - 1),
+    })
+}
+
+// The call sites of a function, and the bytes up to their end.
+#[derive(Clone, Copy)]
+pub(crate) struct CallSiteTable<'a> {
+    pub bytes: &'a [u8],
+    pub header: Header,
+    pub function: u32,
+}
+
+impl CallSiteTable<'_> {
+    // The fields of the record at an offset.
+    fn fields(&self, at: usize) -> Result<Fields, Fault>
+        ensures is { result ≡ fields_at self.now.bytes.now self.now.header.sites.format at }
+        ensures within { IfOk result Readable }
+    {
+        let format = self.header.sites.format;
+        let start = in_record(read_number(self.bytes, at, format), at)?;
+        let length = in_record(read_number(self.bytes, start.next, format), at)?;
+        let pad = in_record(read_number(self.bytes, length.next, format), at)?;
+        let action = in_record(read_unsigned(self.bytes, pad.next), at)?;
+        Ok(Fields {
+            start,
+            length,
+            pad,
+            action,
+        })
+    }
+
+    // The record that fields make: start, length and pad are judged in this order.
+    fn judge(&self, at: usize, f: Fields) -> Result<Read<Ranged>, Fault>
+        requires { Readable f }
+        ensures { result ≡ judged_fields self.now.header.landing self.now.function at f }
+    {
+        let from = make_address(self.function, f.start.value, at)?;
+        let to = make_address(from, f.length.value, f.start.next)?;
+        let pad = make_address(self.header.landing, f.pad.value, f.length.next)?;
+        let pad = if f.pad.value == 0 { None } else { Some(pad) };
+        let action = Action {
+            value: f.action.value,
+            at: f.pad.next,
+        };
+        Ok(Read {
+            value: Ranged {
+                from,
+                to,
+                site: Site { pad, action },
+            },
+            next: f.action.next,
+        })
+    }
+
+    fn ranged(&self, at: usize) -> Result<Read<Ranged>, Fault>
+        ensures { result ≡ ranged_at self.now.bytes.now self.now.header self.now.function at }
+    {
+        let fields = self.fields(at)?;
+        self.judge(at, fields)
+    }
+
+    // A numbered record holds its pad less one.
+    fn numbered(&self, at: usize) -> Result<Read<Site>, Fault>
+        ensures { result ≡ numbered_at self.now.bytes.now at }
+    {
+        let pad = in_record(read_unsigned(self.bytes, at), at)?;
+        let action = in_record(read_unsigned(self.bytes, pad.next), at)?;
+        if pad.value == u32::MAX {
+            return Err(Fault::at(Cause::BadAddress, at));
+        }
+        let site = Site {
+            pad: Some(pad.value + 1),
+            action: Action {
+                value: action.value,
+                at: pad.next,
+            },
+        };
+        Ok(Read {
+            value: site,
+            next: action.next,
+        })
+    }
+
+    // The record at the search's offset, and then whether it is the one.
+    fn look(&self, search: Search) -> Result<ControlFlow<Option<Site>, Search>, Fault>
+        ensures { result ≡ look self.now.bytes.now self.now.header self.now.function search }
+    {
+        if search.at >= self.bytes.len() {
+            return Ok(ControlFlow::Break(None));
+        }
+        match search.wanted {
+            Wanted::Place(place) => {
+                let record = self.ranged(search.at)?;
+                Ok(record.value.judge(place, record.next))
+            }
+            Wanted::Nth(0) => Ok(ControlFlow::Break(None)),
+            Wanted::Nth(n) => Ok(judge_numbered(n, self.numbered(search.at)?)),
         }
     }
-    Ok(None)
+
+    // The call site that is wanted, None where the place is unlisted. A record has a byte or more, so that as many turns as
+    // there are bytes are enough.
+    #[tactic(auto, using(crate::proofs::Turns::turn_err, crate::proofs::Turns::turn_done, crate::proofs::Turns::turn_next, crate::proofs::Turns::turn_end))]
+    pub(crate) fn find(&self, wanted: Wanted) -> Result<Option<Site>, Fault>
+        ensures { result ≡ find_site self.now.bytes.now self.now.header self.now.function wanted }
+    {
+        let sites = self.header.sites;
+        let mut search = Search {
+            at: sites.at,
+            wanted,
+        };
+        for _ in sites.at..sites.end {
+            match self.look(search)? {
+                ControlFlow::Break(site) => return Ok(site),
+                ControlFlow::Continue(next) => search = next,
+            }
+        }
+        Ok(None)
+    }
 }
 
 impl Layout {
@@ -251,13 +243,8 @@ impl Layout {
     {
         match self {
             Layout::Lsda => Some(Wanted::Place(place)),
-            Layout::Sjlj => {
-                if place < 0x8000_0000 {
-                    Some(Wanted::Nth(place))
-                } else {
-                    None
-                }
-            }
+            Layout::Sjlj if place < 0x8000_0000 => Some(Wanted::Nth(place)),
+            Layout::Sjlj => None,
         }
     }
 }

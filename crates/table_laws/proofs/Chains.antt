@@ -1,6 +1,8 @@
 -- The walk along a chain, and the link that gives its verdict.
 use Rattle.std.proofs.Common.{◌≡◌, ℕ, zero, suc, ◌<◌, ◌≤◌, Bool, true, false, ◌&&◌, ◌||◌, eqb, ltb, leb, ◌⊎◌, List, [], ◌∷◌, ◌++◌, length, ℤ, pos, negsuc, ◌+ℤ◌, Some, None, Ok, Err, Option, Result, sym, refl, ap, ◌∙◌, subst, inl, inr, arith}
 use Rattle.std.proofs.lemmas.Bool.{eqb-true}
+use Rattle.std.specs.declared.ops.ControlFlow.{ControlFlow}
+use Rattle.std.specs.declared.ops.ControlFlow.TheVariants.{Continue, Break}
 use Rattle.personality.specs.declared.fault.Cause.TheVariants.{BadLink}
 use Rattle.personality.specs.declared.fault.Fault.{Fault}
 use Rattle.personality.specs.declared.verdict.Verdict.{Verdict}
@@ -15,8 +17,6 @@ use Rattle.lsda.specs.Verdict.{landed, verdict_of}
 use Rattle.lsda.specs.declared.chain.Walk.{Walk}
 use Rattle.lsda.specs.declared.header.Header.{Header}
 use Rattle.lsda.specs.declared.site.Site.{Site}
-use Rattle.lsda.specs.declared.turn.Turn.{Turn}
-use Rattle.lsda.specs.declared.turn.Turn.TheVariants.{Done, Next}
 use Rattle.table_laws.specs.Chains.{Link, Stands, Leads, at_once, through, Matches, FromLink, FromChain, start_of}
 use Rattle.table_laws.specs.Sites.{In, here, there}
 
@@ -105,25 +105,25 @@ module _ (bs : List ℕ) (start : ℕ) (h : Header) (matches : ℕ → Bool) (fo
   next_walk w l = record { at = pos l.filter.next +ℤ l.displacement.value; from = l.filter.next; noted = w.noted || is_0 l.filter.value }
 
   -- what one step of a walk may give
-  data Step (w : Walk) : Turn Walk Verdict → Type 0 where
-    matched : (l : Link) → w.at ≡ pos l.at → Stands bs h.sites.end l → Hit l → Step w (Done (Handler pad l.filter.value))
-    ended : (l : Link) → w.at ≡ pos l.at → Stands bs h.sites.end l → (Hit l → ⊥) → l.displacement.value ≡ pos 0 → Step w (Done (ending (w.noted || is_0 l.filter.value) pad))
-    passed : (l : Link) → w.at ≡ pos l.at → Stands bs h.sites.end l → (Hit l → ⊥) → (l.displacement.value ≡ pos 0 → ⊥) → Step w (Next (next_walk w l))
+  data Step (w : Walk) : ControlFlow Verdict Walk → Type 0 where
+    matched : (l : Link) → w.at ≡ pos l.at → Stands bs h.sites.end l → Hit l → Step w (Break (Handler pad l.filter.value))
+    ended : (l : Link) → w.at ≡ pos l.at → Stands bs h.sites.end l → (Hit l → ⊥) → l.displacement.value ≡ pos 0 → Step w (Break (ending (w.noted || is_0 l.filter.value) pad))
+    passed : (l : Link) → w.at ≡ pos l.at → Stands bs h.sites.end l → (Hit l → ⊥) → (l.displacement.value ≡ pos 0 → ⊥) → Step w (Continue (next_walk w l))
 
   -- the link that was read gives the step
-  judged : (w : Walk) (t : Turn Walk Verdict) (l : Link) → w.at ≡ pos l.at → Stands bs h.sites.end l → (b : Bool) → hit l ≡ Ok b → ◌≡◌ {A = Result (Turn Walk Verdict) Fault} (elim b [ true ↦ Ok (Done (Handler pad l.filter.value)) | false ↦ Ok (onward pad (w.noted || is_0 l.filter.value) l.filter l.displacement) ]) (Ok t) → Step w t
-  judged w t l a s true q e = subst (Step w) (ok_same (Done (Handler pad l.filter.value)) t e) (matched l a s (hit_true l q))
+  judged : (w : Walk) (t : ControlFlow Verdict Walk) (l : Link) → w.at ≡ pos l.at → Stands bs h.sites.end l → (b : Bool) → hit l ≡ Ok b → ◌≡◌ {A = Result (ControlFlow Verdict Walk) Fault} (elim b [ true ↦ Ok (Break (Handler pad l.filter.value)) | false ↦ Ok (onward pad (w.noted || is_0 l.filter.value) l.filter l.displacement) ]) (Ok t) → Step w t
+  judged w t l a s true q e = subst (Step w) (ok_same (Break (Handler pad l.filter.value)) t e) (matched l a s (hit_true l q))
   judged w t l a s false q e = go (is_0 l.displacement.value) refl
     where
       go : (z : Bool) → is_0 l.displacement.value ≡ z → Step w t
       go true z =
-          let f : onward pad (w.noted || is_0 l.filter.value) l.filter l.displacement ≡ Done (ending (w.noted || is_0 l.filter.value) pad) = rw (z, onward) in
+          let f : onward pad (w.noted || is_0 l.filter.value) l.filter l.displacement ≡ Break (ending (w.noted || is_0 l.filter.value) pad) = rw (z, onward) in
           subst (Step w) (sym f ∙ ok_same (onward pad (w.noted || is_0 l.filter.value) l.filter l.displacement) t e) (ended l a s (hit_false l q) (is_zero l.displacement.value z))
       go false z =
-          let f : onward pad (w.noted || is_0 l.filter.value) l.filter l.displacement ≡ Next (next_walk w l) = rw (z, onward) in
+          let f : onward pad (w.noted || is_0 l.filter.value) l.filter l.displacement ≡ Continue (next_walk w l) = rw (z, onward) in
           subst (Step w) (sym f ∙ ok_same (onward pad (w.noted || is_0 l.filter.value) l.filter l.displacement) t e) (passed l a s (hit_false l q) (not_zero l.displacement.value z))
 
-  linked : (w : Walk) (t : Turn Walk Verdict) (at : ℕ) → w.at ≡ pos at → h.sites.end ≤ at → at < length bs → link_at bs start h.types matches forced pad w.noted at ≡ Ok t → Step w t
+  linked : (w : Walk) (t : ControlFlow Verdict Walk) (at : ℕ) → w.at ≡ pos at → h.sites.end ≤ at → at < length bs → link_at bs start h.types matches forced pad w.noted at ≡ Ok t → Step w t
   linked w t at z g i e =
       let a = then_parts (leb128_at bs true at) _ t e in
       let b = then_parts (leb128_at bs true a.0.next) _ t a.2 in
@@ -131,7 +131,7 @@ module _ (bs : List ℕ) (start : ℕ) (h : Header) (matches : ℕ → Bool) (fo
       let l : Link = record { at = at; filter = a.0; displacement = b.0 } in
       judged w t l z (record { first = g; inside = i; filter = a.1; displacement = b.1 }) c.0 c.1 c.2
 
-  step_is : (w : Walk) (t : Turn Walk Verdict) → step_at bs start h matches forced pad w ≡ Ok t → Step w t
+  step_is : (w : Walk) (t : ControlFlow Verdict Walk) → step_at bs start h matches forced pad w ≡ Ok t → Step w t
   step_is w t e = go w.at refl
     where
       go : (z : ℤ) → w.at ≡ z → Step w t
@@ -148,8 +148,8 @@ module _ (bs : List ℕ) (start : ℕ) (h : Header) (matches : ℕ → Bool) (fo
   abbrev walk : ℕ → Walk → Result Verdict Fault
   walk k w = iterate (step_at bs start h matches forced pad) (λ x. broken BadLink x.from) k w
 
-  abbrev after : ℕ → Turn Walk Verdict → Result Verdict Fault
-  after k t = elim t [ Done v ↦ Ok v | Next n ↦ walk k n ]
+  abbrev after : ℕ → ControlFlow Verdict Walk → Result Verdict Fault
+  after k t = elim t [ Break v ↦ Ok v | Continue n ↦ walk k n ]
 
   handled : (k : ℕ) (w : Walk) (p : ℕ) (s : ℤ) → walk k w ≡ Ok (Handler p s) → (pad ≡ p) × FromLink bs start h matches forced k w.at s
   unfolding iterate
@@ -158,7 +158,7 @@ module _ (bs : List ℕ) (start : ℕ) (h : Header) (matches : ℕ → Bool) (fo
       let q = then_parts (step_at bs start h matches forced pad w) _ (Handler p s) e in
       go q.0 (step_is w q.0 q.1) q.2 (λ n. handled k n p s)
     where
-      go : (t : Turn Walk Verdict) → Step w t → after k t ≡ Ok (Handler p s) → ((n : Walk) → walk k n ≡ Ok (Handler p s) → (pad ≡ p) × FromLink bs start h matches forced k n.at s) → (pad ≡ p) × FromLink bs start h matches forced (suc k) w.at s
+      go : (t : ControlFlow Verdict Walk) → Step w t → after k t ≡ Ok (Handler p s) → ((n : Walk) → walk k n ≡ Ok (Handler p s) → (pad ≡ p) × FromLink bs start h matches forced k n.at s) → (pad ≡ p) × FromLink bs start h matches forced (suc k) w.at s
       go _ (matched l a d m) f ih =
           let g : Handler pad l.filter.value ≡ Handler p s = ok_same (Handler pad l.filter.value) (Handler p s) f in
           let same : pad ≡ p = cc in
@@ -197,7 +197,7 @@ module _ (bs : List ℕ) (start : ℕ) (h : Header) (matches : ℕ → Bool) (fo
       let q = then_parts (step_at bs start h matches forced pad w) _ Terminate e in
       go q.0 (step_is w q.0 q.1) q.2 (never_terminates k)
     where
-      go : (t : Turn Walk Verdict) → Step w t → after k t ≡ Ok Terminate → ((n : Walk) → walk k n ≡ Ok Terminate → ⊥) → ⊥
+      go : (t : ControlFlow Verdict Walk) → Step w t → after k t ≡ Ok Terminate → ((n : Walk) → walk k n ≡ Ok Terminate → ⊥) → ⊥
       go _ (matched l a d m) f ih = let z : ◌≡◌ {A = ℕ} 0 1 = cc in omega arith
       go _ (ended l a d m z) f ih = ending_no_terminate (w.noted || is_0 l.filter.value) pad (ok_same (ending (w.noted || is_0 l.filter.value) pad) Terminate f)
       go _ (passed l a d m z) f ih = ih (next_walk w l) f
@@ -230,7 +230,7 @@ module _ (bs : List ℕ) (start : ℕ) (h : Header) (matches : ℕ → Bool) (fo
       carried l es m (inl b) = noted_here l (l ∷ es) m here b
       carried l es m (inr x) = inr (x.0, there x.1, x.2)
 
-      go : (t : Turn Walk Verdict) → Step w t → after k t ≡ Ok (Cleanup p) → ((n : Walk) → walk k n ≡ Ok (Cleanup p) → (pad ≡ p) × Whole k n) → (pad ≡ p) × Whole (suc k) w
+      go : (t : ControlFlow Verdict Walk) → Step w t → after k t ≡ Ok (Cleanup p) → ((n : Walk) → walk k n ≡ Ok (Cleanup p) → (pad ≡ p) × Whole k n) → (pad ≡ p) × Whole (suc k) w
       go _ (matched l a d m) f ih = let z : ◌≡◌ {A = ℕ} 0 1 = cc in absurd (omega arith)
       go _ (ended l a d m z) f ih =
           let r = ending_cleanup (w.noted || is_0 l.filter.value) pad p (ok_same (ending (w.noted || is_0 l.filter.value) pad) (Cleanup p) f) in (

@@ -12,7 +12,6 @@ use Rattle.lsda.specs.Header.{header_at}
 use Rattle.lsda.specs.Site.{find_site, wanted_of}
 use Rattle.lsda.specs.Verdict.{table_bytes, unlisted, landed, judged_at, verdict_of, leaf_verdict}
 use Rattle.lsda.specs.declared.header.Header.{Header}
-use Rattle.lsda.specs.declared.header.Layout.{Layout}
 use Rattle.lsda.specs.declared.leaf.Table.{Table}
 use Rattle.lsda.specs.declared.site.Site.{Site}
 use Rattle.lsda.specs.declared.site.Wanted.{Wanted}
@@ -61,26 +60,26 @@ unlisted_stays b (Broken f) l e = l
 nothing_stays : (v : Verdict) → Lands v → Nothing ≡ v → ⊥
 nothing_stays v l e = unlisted_stays true v l e
 
-module _ {L : Type 0} (native : ℕ) (caught : ℕ → ℕ → Bool) (layout : Layout) (t : Table L) (image : List ℕ) (q : Question) where
+module _ {L : Type 0} (native : ℕ) (caught : ℕ → ℕ → Bool) (t : Table L) (image : List ℕ) (q : Question) where
   -- a verdict that lands is that of a call site
   record Landed (v : Verdict) : Type 0 where
     bs : List ℕ
     h : Header
     site : Site
-    found : Found layout t image q bs h site
+    found : Found t image q bs h site
     verdict : landed bs t.start h (matching native caught q) q.forced site ≡ Ok v
 
-  lands : (v : Verdict) → Lands v → leaf_verdict native caught layout t image q ≡ v → Landed v
+  lands : (v : Verdict) → Lands v → leaf_verdict native caught t image q ≡ v → Landed v
   lands v l e =
-      let j = said_ok (judged_at native caught layout t image q) v l (in_unit q (verdict_of (judged_at native caught layout t image q)) v l e) in
+      let j = said_ok (judged_at native caught t image q) v l (in_unit q (verdict_of (judged_at native caught t image q)) v l e) in
       let a = then_parts (table_bytes image t.start t.length) _ v j in
-      let b = then_parts (header_at a.0 layout t.start t.function) _ v a.2 in
-      seek a.0 b.0 a.1 b.1 (wanted_of layout q.place) refl b.2
+      let b = then_parts (header_at a.0 t.layout t.start t.function) _ v a.2 in
+      seek a.0 b.0 a.1 b.1 (wanted_of t.layout q.place) refl b.2
     where
       after : (bs : List ℕ) (h : Header) (o : Option Site) → Result Verdict Fault
       after bs h o = elim o [ None ↦ Ok (unlisted q.forced) | Some site ↦ landed bs t.start h (matching native caught q) q.forced site ]
 
-      seek : (bs : List ℕ) (h : Header) → table_bytes image t.start t.length ≡ Ok bs → header_at bs layout t.start t.function ≡ Ok h → (o : Option Wanted) → wanted_of layout q.place ≡ o → ◌≡◌ {A = Result Verdict Fault} (elim o [ None ↦ Ok Nothing | Some wanted ↦ then (find_site (take h.sites.end bs) h t.function wanted) (λ f. elim f [ None ↦ Ok (unlisted q.forced) | Some site ↦ landed bs t.start h (matching native caught q) q.forced site ]) ]) (Ok v) → Landed v
+      seek : (bs : List ℕ) (h : Header) → table_bytes image t.start t.length ≡ Ok bs → header_at bs t.layout t.start t.function ≡ Ok h → (o : Option Wanted) → wanted_of t.layout q.place ≡ o → ◌≡◌ {A = Result Verdict Fault} (elim o [ None ↦ Ok Nothing | Some wanted ↦ then (find_site (take h.sites.end bs) h t.function wanted) (λ f. elim f [ None ↦ Ok (unlisted q.forced) | Some site ↦ landed bs t.start h (matching native caught q) q.forced site ]) ]) (Ok v) → Landed v
       seek bs h image_is header_is None w d = absurd (nothing_stays v l (cc))
       seek bs h image_is header_is (Some wanted) w d =
           let c = then_parts (find_site (take h.sites.end bs) h t.function wanted) _ v d in
@@ -96,13 +95,13 @@ module _ {L : Type 0} (native : ℕ) (caught : ℕ → ℕ → Bool) (layout : L
             verdict = g;
           }
 
-  pub handler_law : (r : Verdict) → r ≡ leaf_verdict native caught layout t image q → HandlerLaw native caught layout t image q r
+  pub handler_law : (r : Verdict) → r ≡ leaf_verdict native caught t image q → HandlerLaw native caught t image q r
   handler_law r is pad selector e =
       let s = lands (Handler pad selector) tt (sym is ∙ e) in
       let p = handler_landed s.bs t.start s.h (matching native caught q) q.forced s.site pad selector s.verdict in
       record { bs = s.bs; h = s.h; site = s.site; found = s.found; pad_is = p.0; link = p.1 }
 
-  pub cleanup_law : (r : Verdict) → r ≡ leaf_verdict native caught layout t image q → CleanupLaw native caught layout t image q r
+  pub cleanup_law : (r : Verdict) → r ≡ leaf_verdict native caught t image q → CleanupLaw native caught t image q r
   cleanup_law r is pad e =
       let s = lands (Cleanup pad) tt (sym is ∙ e) in
       let p = cleanup_landed s.bs t.start s.h (matching native caught q) q.forced s.site pad s.verdict in

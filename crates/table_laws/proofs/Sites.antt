@@ -2,6 +2,8 @@
 use Rattle.std.proofs.Common.{◌≡◌, ℕ, zero, suc, ◌+◌, ◌-◌, ◌<◌, ◌≤◌, Bool, true, false, eqb, ltb, leb, ◌⊎◌, List, [], ◌∷◌, length, take, ℤ, pos, negsuc, Some, None, Ok, Err, Option, Result, sym, refl, ap, ◌∙◌, inl, inr, arith}
 use Rattle.std.proofs.lemmas.List.{length-take}
 use Rattle.std.proofs.lemmas.Bool.{cases_lt}
+use Rattle.std.specs.declared.ops.ControlFlow.{ControlFlow}
+use Rattle.std.specs.declared.ops.ControlFlow.TheVariants.{Continue, Break}
 use Rattle.personality.specs.Layers.{in_unit_0}
 use Rattle.personality.specs.declared.fault.Fault.{Fault}
 use Rattle.personality.specs.declared.verdict.Question.{Question}
@@ -11,20 +13,18 @@ use Rattle.numbers.specs.Formats.{number_at}
 use Rattle.numbers.specs.Numbers.{unsigned_at}
 use Rattle.numbers.specs.Reading.{then}
 use Rattle.numbers.specs.declared.format.Format.{Format}
+use Rattle.numbers.specs.declared.number.Read.{Read}
 use Rattle.lsda.specs.Chain.{matching}
 use Rattle.lsda.specs.Site.{in_record_at, address, fields_at, ranged_at, ranged_turn, look, find_site}
 use Rattle.lsda.specs.Turns.{iterate}
 use Rattle.lsda.specs.Verdict.{unlisted, landed, judged_at, verdict_of, leaf_verdict}
 use Rattle.lsda.specs.declared.header.Header.{Header}
-use Rattle.lsda.specs.declared.header.Layout.TheVariants.{Lsda}
 use Rattle.lsda.specs.declared.leaf.Table.{Table}
 use Rattle.lsda.specs.declared.site.Fields.{Fields}
 use Rattle.lsda.specs.declared.site.Ranged.{Ranged}
 use Rattle.lsda.specs.declared.site.Search.{Search}
 use Rattle.lsda.specs.declared.site.Site.{Site}
 use Rattle.lsda.specs.declared.site.Wanted.TheVariants.{Place}
-use Rattle.lsda.specs.declared.turn.Turn.{Turn}
-use Rattle.lsda.specs.declared.turn.Turn.TheVariants.{Done, Next}
 use Rattle.table_laws.proofs.Chains.{landed_goes_on}
 use Rattle.table_laws.specs.Sites as sites
 use Rattle.table_laws.specs.Sites.{In, here, there, Records, Rising, Holds, Agrees, SitesLaw}
@@ -62,16 +62,16 @@ address_above base (pos n) at r e = go (leb (base + n) 4294967295) refl
 address_above base (negsuc n) at r e = let z : ◌≡◌ {A = ℕ} 0 1 = cc in absurd (omega arith)
 
 -- a record that is read goes on, and does not end before it begins
-ranged_facts : (bs : List ℕ) (h : Header) (function at : ℕ) (r : Ranged) → ranged_at bs h function at ≡ Ok r → (at < r.next) × (r.from ≤ r.to)
+ranged_facts : (bs : List ℕ) (h : Header) (function at : ℕ) (r : Read Ranged) → ranged_at bs h function at ≡ Ok r → (at < r.next) × (r.value.from ≤ r.value.to)
 ranged_facts bs h function at r e =
     let p = then_parts (fields_at bs h.sites.format at) _ r e in
     let a = then_parts (address function p.0.start.value at) _ r p.2 in
     let b = then_parts (address a.0 p.0.length.value p.0.start.next) _ r a.2 in
     let c = then_parts (address h.landing p.0.pad.value p.0.length.next) _ r b.2 in
-    let part : (f : Ranged → ℕ) → Result Ranged Fault → ℕ = λ f x. elim x [ Ok y ↦ f y | Err _ ↦ 0 ] in
+    let part : (f : Read Ranged → ℕ) → Result (Read Ranged) Fault → ℕ = λ f x. elim x [ Ok y ↦ f y | Err _ ↦ 0 ] in
     let next : p.0.action.next ≡ r.next = ap (part (λ y. y.next)) c.2 in
-    let from : a.0 ≡ r.from = ap (part (λ y. y.from)) c.2 in
-    let to : b.0 ≡ r.to = ap (part (λ y. y.to)) c.2 in
+    let from : a.0 ≡ r.value.from = ap (part (λ y. y.value.from)) c.2 in
+    let to : b.0 ≡ r.value.to = ap (part (λ y. y.value.to)) c.2 in
     let up = address_above a.0 p.0.length.value p.0.start.next b.0 b.1 in
     let on = fields_onward bs h.sites.format at p.0 p.1 in
     (omega arith, omega arith)
@@ -86,16 +86,16 @@ module _ (bs : List ℕ) (h : Header) (function place : ℕ) where
   abbrev search_from : ℕ → ℕ → Result (Option Site) Fault
   search_from k at = iterate (look bs h function) (λ _. Ok None) k (record { at = at; wanted = Place place })
 
-  abbrev after : ℕ → Turn Search (Option Site) → Result (Option Site) Fault
-  after k t = elim t [ Done site ↦ Ok site | Next s ↦ iterate (look bs h function) (λ _. Ok None) k s ]
+  abbrev after : ℕ → ControlFlow (Option Site) Search → Result (Option Site) Fault
+  after k t = elim t [ Break site ↦ Ok site | Continue s ↦ iterate (look bs h function) (λ _. Ok None) k s ]
 
-  look_none : (at : ℕ) → length bs ≤ at → look bs h function (record { at = at; wanted = Place place }) ≡ Ok (Done None)
+  look_none : (at : ℕ) → length bs ≤ at → look bs h function (record { at = at; wanted = Place place }) ≡ Ok (Break None)
   look_none at g = let b : ltb at (length bs) ≡ false = grind arith in rw (b, look)
 
-  look_more : (at : ℕ) (r : Ranged) → at < length bs → ranged_at bs h function at ≡ Ok r → look bs h function (record { at = at; wanted = Place place }) ≡ Ok (ranged_turn place r)
+  look_more : (at : ℕ) (r : Read Ranged) → at < length bs → ranged_at bs h function at ≡ Ok r → look bs h function (record { at = at; wanted = Place place }) ≡ Ok (ranged_turn place r)
   look_more at r g e = let b : ltb at (length bs) ≡ true = grind arith in rw (b, look) (ap (λ x. then x (λ y. Ok (ranged_turn place y))) e)
 
-  turned : (k : ℕ) (r : Ranged) (o : Option Site) (a b : Bool) → search_from k r.next ≡ Ok o → after k (elim a [ true ↦ Done None | false ↦ elim b [ true ↦ Done (Some r.site) | false ↦ Next (record { at = r.next; wanted = Place place }) ] ]) ≡ Ok (elim a [ true ↦ None | false ↦ elim b [ true ↦ Some r.site | false ↦ o ] ])
+  turned : (k : ℕ) (r : Read Ranged) (o : Option Site) (a b : Bool) → search_from k r.next ≡ Ok o → after k (elim a [ true ↦ Break None | false ↦ elim b [ true ↦ Break (Some r.value.site) | false ↦ Continue (record { at = r.next; wanted = Place place }) ] ]) ≡ Ok (elim a [ true ↦ None | false ↦ elim b [ true ↦ Some r.value.site | false ↦ o ] ])
   turned k r o true b e = refl
   turned k r o false true e = refl
   turned k r o false false e = e
@@ -109,7 +109,7 @@ module _ (bs : List ℕ) (h : Header) (function place : ℕ) where
   found (suc k) at _ (sites.more _ r rs g e m) l =
       let on = ranged_facts bs h function at r e in
       let ih = found k r.next rs m (omega (arith, on.0)) in
-      ap (λ x. then x (after k)) (look_more at r g e) ∙ turned k r (pick place rs) (ltb place r.from) (ltb place r.to) ih
+      ap (λ x. then x (after k)) (look_more at r g e) ∙ turned k r (pick place rs) (ltb place r.value.from) (ltb place r.value.to) ih
 
   sane : (at : ℕ) (rs : List Ranged) → Records bs h function at rs → (r : Ranged) → In r rs → r.from ≤ r.to
   sane at _ (sites.none _ g) r i = elim i [ ]
@@ -171,15 +171,15 @@ pub unit_0 : (q : Question) (v : Verdict) → q.unit ≡ 0 → in_unit_0 q v ≡
 unit_0 q v e = let b : eqb q.unit 0 ≡ true = grind arith in rw (b, in_unit_0)
 
 module _ {L : Type 0} (native : ℕ) (caught : ℕ → ℕ → Bool) (t : Table L) (image : List ℕ) (q : Question) where
-  pub sites_law : (r : Verdict) → r ≡ leaf_verdict native caught Lsda t image q → SitesLaw native caught t image q r
-  sites_law r is bs h rs unit image_is header_is records up =
+  pub sites_law : (r : Verdict) → r ≡ leaf_verdict native caught t image q → SitesLaw native caught t image q r
+  sites_law r is bs h rs layout unit image_is header_is records up =
       let end = h.sites.end in
       let short : length (take end bs) ≤ h.sites.at + (end - h.sites.at) = omega (arith, length-take end bs) in
       let find : find_site (take end bs) h t.function (Place q.place) ≡ Ok (pick q.place rs) = found (take end bs) h t.function q.place (end - h.sites.at) h.sites.at rs records short in
       let ok = sane (take end bs) h t.function q.place h.sites.at rs records in
       let verdict : Option Site → Result Verdict Fault = λ o. elim o [ None ↦ Ok (unlisted q.forced) | Some site ↦ landed bs t.start h (matching native caught q) q.forced site ] in
-      let judged : judged_at native caught Lsda t image q ≡ verdict (pick q.place rs) = rw (image_is, judged_at, header_is, find) in
-      let whole : r ≡ verdict_of (verdict (pick q.place rs)) = is ∙ unit_0 q (verdict_of (judged_at native caught Lsda t image q)) unit ∙ ap verdict_of judged in
+      let judged : judged_at native caught t image q ≡ verdict (pick q.place rs) = rw (image_is, judged_at, layout, header_is, find) in
+      let whole : r ≡ verdict_of (verdict (pick q.place rs)) = is ∙ unit_0 q (verdict_of (judged_at native caught t image q)) unit ∙ ap verdict_of judged in
       record {
         listed = λ s i hold. whole ∙ ap (λ o. verdict_of (verdict o)) (pick_held q.place s rs i up ok hold);
         unlisted = λ free. whole ∙ ap (λ o. verdict_of (verdict o)) (pick_unheld q.place rs free);

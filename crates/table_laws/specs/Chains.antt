@@ -10,7 +10,6 @@ use Rattle.lsda.specs.Header.{header_at}
 use Rattle.lsda.specs.Site.{find_site, wanted_of}
 use Rattle.lsda.specs.Verdict.{table_bytes}
 use Rattle.lsda.specs.declared.header.Header.{Header}
-use Rattle.lsda.specs.declared.header.Layout.{Layout}
 use Rattle.lsda.specs.declared.header.TypeTable.{TypeTable}
 use Rattle.lsda.specs.declared.leaf.Table.{Table}
 use Rattle.lsda.specs.declared.site.Site.{Site}
@@ -71,34 +70,34 @@ abbrev pub start_of : Header → Site → ℤ
 start_of h site = (first_link_of h.sites.end site.action).at
 
 -- the call site that a leaf finds for a question, in its bytes bs and under its header h
-pub record Found {L : Type 0} (layout : Layout) (t : Table L) (image : List ℕ) (q : Question) (bs : List ℕ) (h : Header) (site : Site) : Type 0 where
+pub record Found {L : Type 0} (t : Table L) (image : List ℕ) (q : Question) (bs : List ℕ) (h : Header) (site : Site) : Type 0 where
   pub wanted : Wanted
   pub bytes : table_bytes image t.start t.length ≡ Ok bs
-  pub header : header_at bs layout t.start t.function ≡ Ok h
-  pub asks : wanted_of layout q.place ≡ Some wanted
+  pub header : header_at bs t.layout t.start t.function ≡ Ok h
+  pub asks : wanted_of t.layout q.place ≡ Some wanted
   pub finds : find_site (take h.sites.end bs) h t.function wanted ≡ Ok (Some site)
 
 -- a leaf's handler: the call site's pad, and the filter of the first link of its chain that matches
-pub record Handled {L : Type 0} (native : ℕ) (caught : ℕ → ℕ → Bool) (layout : Layout) (t : Table L) (image : List ℕ) (q : Question) (pad : ℕ) (selector : ℤ) : Type 0 where
+pub record Handled {L : Type 0} (native : ℕ) (caught : ℕ → ℕ → Bool) (t : Table L) (image : List ℕ) (q : Question) (pad : ℕ) (selector : ℤ) : Type 0 where
   pub bs : List ℕ
   pub h : Header
   pub site : Site
-  pub found : Found layout t image q bs h site
+  pub found : Found t image q bs h site
   pub pad_is : site.pad ≡ Some pad
   pub link : FromLink bs t.start h (matching native caught q) q.forced 64 (start_of h site) selector
 
 -- a leaf's cleanup: the call site's pad, where the action is 0, or no link of its chain matches and one has filter 0
-pub record Cleaned {L : Type 0} (native : ℕ) (caught : ℕ → ℕ → Bool) (layout : Layout) (t : Table L) (image : List ℕ) (q : Question) (pad : ℕ) : Type 0 where
+pub record Cleaned {L : Type 0} (native : ℕ) (caught : ℕ → ℕ → Bool) (t : Table L) (image : List ℕ) (q : Question) (pad : ℕ) : Type 0 where
   pub bs : List ℕ
   pub h : Header
   pub site : Site
-  pub found : Found layout t image q bs h site
+  pub found : Found t image q bs h site
   pub pad_is : site.pad ≡ Some pad
   pub action : (site.action.value ≡ 0) ⊎ FromChain bs t.start h (matching native caught q) q.forced 64 (start_of h site)
 
 -- of the verdict r of a leaf on a question
-abbrev pub HandlerLaw : {L : Type 0} → ℕ → (ℕ → ℕ → Bool) → Layout → Table L → List ℕ → Question → Verdict → Type 0
-HandlerLaw native caught layout t image q r = (pad : ℕ) (selector : ℤ) → r ≡ Handler pad selector → Handled native caught layout t image q pad selector
+abbrev pub HandlerLaw : {L : Type 0} → ℕ → (ℕ → ℕ → Bool) → Table L → List ℕ → Question → Verdict → Type 0
+HandlerLaw native caught t image q r = (pad : ℕ) (selector : ℤ) → r ≡ Handler pad selector → Handled native caught t image q pad selector
 
-abbrev pub CleanupLaw : {L : Type 0} → ℕ → (ℕ → ℕ → Bool) → Layout → Table L → List ℕ → Question → Verdict → Type 0
-CleanupLaw native caught layout t image q r = (pad : ℕ) → r ≡ Cleanup pad → Cleaned native caught layout t image q pad
+abbrev pub CleanupLaw : {L : Type 0} → ℕ → (ℕ → ℕ → Bool) → Table L → List ℕ → Question → Verdict → Type 0
+CleanupLaw native caught t image q r = (pad : ℕ) → r ≡ Cleanup pad → Cleaned native caught t image q pad

@@ -3,6 +3,7 @@ use Rattle.std.specs.Prelude.{◌≡◌, ℕ, ◌-◌, ◌<◌, ◌≤◌, Bool,
 use Rattle.personality.specs.declared.verdict.Question.{Question}
 use Rattle.personality.specs.declared.verdict.Verdict.{Verdict}
 use Rattle.personality.specs.declared.verdict.Verdict.TheVariants.{Terminate}
+use Rattle.numbers.specs.declared.number.Read.{Read}
 use Rattle.lsda.specs.Chain.{matching}
 use Rattle.lsda.specs.Header.{header_at}
 use Rattle.lsda.specs.Site.{ranged_at, numbered_at}
@@ -10,7 +11,6 @@ use Rattle.lsda.specs.Verdict.{table_bytes, unlisted, landed, verdict_of}
 use Rattle.lsda.specs.declared.header.Header.{Header}
 use Rattle.lsda.specs.declared.header.Layout.TheVariants.{Lsda, Sjlj}
 use Rattle.lsda.specs.declared.leaf.Table.{Table}
-use Rattle.lsda.specs.declared.site.Numbered.{Numbered}
 use Rattle.lsda.specs.declared.site.Ranged.{Ranged}
 use Rattle.lsda.specs.declared.site.Site.{Site}
 
@@ -22,7 +22,7 @@ pub data In {A : Type 0} (x : A) : List A → Type 0 where
 -- all records of a call-site table from an offset on, each of them read soundly; bs end where the call-site table does
 pub data Records (bs : List ℕ) (h : Header) (function : ℕ) : ℕ → List Ranged → Type 0 where
   none : (at : ℕ) → length bs ≤ at → Records bs h function at []
-  more : (at : ℕ) (r : Ranged) (rs : List Ranged) → at < length bs → ranged_at bs h function at ≡ Ok r → Records bs h function r.next rs → Records bs h function at (r ∷ rs)
+  more : (at : ℕ) (r : Read Ranged) (rs : List Ranged) → at < length bs → ranged_at bs h function at ≡ Ok r → Records bs h function r.next rs → Records bs h function at (r.value ∷ rs)
 
 -- each record begins where the one before ends, or later
 pub data Rising : List Ranged → Type 0 where
@@ -45,10 +45,11 @@ pub record Agrees {L : Type 0} (native : ℕ) (caught : ℕ → ℕ → Bool) (t
   -- no two records hold it
   pub one : (s u : Ranged) → In s rs → In u rs → Holds q.place s → Holds q.place u → s ≡ u
 
--- the verdict r of an LSDA leaf on a question to its unit, whatever its bytes, its header and its records are
+-- the verdict r of a table of ranges on a question to its unit, whatever its bytes, its header and its records are
 abbrev pub SitesLaw : {L : Type 0} → ℕ → (ℕ → ℕ → Bool) → Table L → List ℕ → Question → Verdict → Type 0
 SitesLaw native caught t image q r =
     (bs : List ℕ) (h : Header) (rs : List Ranged)
+    → t.layout ≡ Lsda
     → q.unit ≡ 0
     → table_bytes image t.start t.length ≡ Ok bs
     → header_at bs Lsda t.start t.function ≡ Ok h
@@ -57,20 +58,21 @@ SitesLaw native caught t image q r =
     → Agrees native caught t q bs h rs r
 
 -- all records of a numbered call-site table from an offset on, each of them read soundly
-pub data Numbers (bs : List ℕ) : ℕ → List Numbered → Type 0 where
+pub data Numbers (bs : List ℕ) : ℕ → List Site → Type 0 where
   none : (at : ℕ) → length bs ≤ at → Numbers bs at []
-  more : (at : ℕ) (r : Numbered) (rs : List Numbered) → at < length bs → numbered_at bs at ≡ Ok r → Numbers bs r.next rs → Numbers bs at (r ∷ rs)
+  more : (at : ℕ) (r : Read Site) (rs : List Site) → at < length bs → numbered_at bs at ≡ Ok r → Numbers bs r.next rs → Numbers bs at (r.value ∷ rs)
 
 -- the n-th call site, counted from 1
-abbrev pub nth_site : ℕ → List Numbered → Option Site
+abbrev pub nth_site : ℕ → List Site → Option Site
 nth_site n [] = None
-nth_site n (r ∷ rs) = elim (n == 0) [ true ↦ None | false ↦ elim (n == 1) [ true ↦ Some r.site | false ↦ nth_site (n - 1) rs ] ]
+nth_site n (s ∷ ss) = elim (n == 0) [ true ↦ None | false ↦ elim (n == 1) [ true ↦ Some s | false ↦ nth_site (n - 1) ss ] ]
 
--- the verdict r of an SJLJ leaf on a question to its unit: that of the n-th record, where the place is a number n that is
+-- the verdict r of a numbered table on a question to its unit: that of the n-th record, where the place is a number n that is
 -- not negative; without such a record the place is unlisted
 abbrev pub NumbersLaw : {L : Type 0} → ℕ → (ℕ → ℕ → Bool) → Table L → List ℕ → Question → Verdict → Type 0
 NumbersLaw native caught t image q r =
-    (bs : List ℕ) (h : Header) (rs : List Numbered)
+    (bs : List ℕ) (h : Header) (rs : List Site)
+    → t.layout ≡ Sjlj
     → q.unit ≡ 0
     → q.place < 2147483648
     → table_bytes image t.start t.length ≡ Ok bs

@@ -15,7 +15,7 @@ table = 0xff ∷ 0x03 ∷ 0x10 ∷ 0x01 ∷ 0x08 ∷ 0x00 ∷ 0x10 ∷ 0x20 ∷ 
 -- the verdict for a native exception of a type, at a place; what the language catches is given by `caught_in`
 abbrev pub asked : ℕ → ℕ → Verdict
 asked type place =
-    leaf_verdict tree_class (caught_in (0 ∷ 1 ∷ 2 ∷ [])) Lsda (record { start = 0; length = 19; function = 4096; language = tt {0} }) table
+    leaf_verdict tree_class (caught_in (0 ∷ 1 ∷ 2 ∷ [])) (record { layout = Lsda; start = 0; length = 19; function = 4096; language = tt {0} }) table
     (record { unit = 0; place = place; class = tree_class; thrown = type; forced = false })
 
 pub record WorkedCases : Type 0 where
