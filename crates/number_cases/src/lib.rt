@@ -4,14 +4,24 @@
 #[cfg(test)]
 mod tests {
     use numbers::format::{decode_format, read_number};
-    use numbers::number::read_leb128;
-    use personality::fault::Cause;
+    use numbers::number::{Number, read_leb128};
+    use personality::fault::{Cause, Fault};
 
     // Bytes, and the number that they are.
     #[derive(Clone, Copy)]
     struct Encoded<'a> {
         bytes: &'a [u8],
         value: i64,
+    }
+
+    impl<'a> Encoded<'a> {
+        // The number, which takes all of the bytes.
+        fn number(&self) -> Number {
+            Number {
+                value: self.value,
+                next: self.bytes.len(),
+            }
+        }
     }
 
     // Bytes that are no number, and why.
@@ -23,31 +33,18 @@ mod tests {
 
     // Whether a LEB128 number takes all of the bytes and has the value.
     fn reads_as(case: Encoded, signed: bool) -> bool {
-        match read_leb128(case.bytes, 0, signed) {
-            Ok(number) => number.value == case.value && number.next == case.bytes.len(),
-            Err(_) => false,
-        }
+        read_leb128(case.bytes, 0, signed) == Ok(case.number())
     }
 
     // Whether the bytes are refused for the cause, at their first byte.
     fn fails_by(case: Faulty, signed: bool) -> bool {
-        match read_leb128(case.bytes, 0, signed) {
-            Ok(_) => false,
-            Err(fault) => fault.cause.number() == case.cause.number()
-                && fault.offset == 0
-                && fault.layer == 0,
-        }
+        read_leb128(case.bytes, 0, signed) == Err(Fault::at(case.cause, 0))
     }
 
     // Whether a format's number takes so many of the bytes and has the value.
     fn reads_in(code: u8, case: Encoded) -> bool {
-        let Some(format) = decode_format(code) else {
-            return false;
-        };
-        match read_number(case.bytes, 0, format) {
-            Ok(number) => number.value == case.value && number.next == case.bytes.len(),
-            Err(_) => false,
-        }
+        decode_format(code)
+            .is_some_and(|format| read_number(case.bytes, 0, format) == Ok(case.number()))
     }
 
     // The unsigned examples of the DWARF standard.

@@ -1,8 +1,22 @@
--- Counts of questions by verdict, and the line that prints them.
-use Rattle.std.specs.Prelude.{ℕ, ◌+◌, min, List, ◌++◌, codes, decimal}
+-- A question as a statement, counts of questions by verdict, and the line that prints them.
+use Rattle.std.specs.Prelude.{ℕ, ◌+◌, ◌-◌, ◌^◌, min, Bool, true, false, List, [], ◌++◌, length, codes, decimal}
+use Rattle.std.specs.Fmt.{digits, format_spec, padded_integral}
+use Rattle.personality.specs.declared.verdict.Question.{Question}
 use Rattle.personality.specs.declared.verdict.Verdict.{Verdict}
 use Rattle.personality.specs.declared.verdict.Verdict.TheVariants.{Nothing, Cleanup, Handler, Terminate, Broken}
 use Rattle.scenario.specs.declared.report.Tally.{Tally}
+
+-- sixteen lower-case hexadecimal digits
+abbrev pub class_text : ℕ → List ℕ
+class_text class = padded_integral (format_spec 32 0 4 16 (2 ^ 64 - 1)) false [] (digits 16 false class)
+
+abbrev pub manner : Bool → List ℕ
+manner true = codes "forced"
+manner false = codes "plain"
+
+abbrev pub asked_text : Question → List ℕ
+asked_text q =
+    codes "ask " ++ (decimal q.unit ++ (codes " " ++ (decimal q.place ++ (codes " " ++ (class_text q.class ++ (codes " " ++ (decimal q.thrown ++ (codes " " ++ manner q.forced))))))))
 
 -- one more; a counter stops at the largest number of 64 bits
 abbrev pub more : ℕ → ℕ

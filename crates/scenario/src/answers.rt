@@ -16,11 +16,10 @@ fn answer_all<P: Personality>(
 ) -> Result<Vec<Verdict>, AllocError>
     ensures { IfOk result (λ v. v.items ≡ map (P.Personality.verdict personality.now image.now) questions.now) }
 {
-    let mut found = Vec::new(heap);
-    for question in questions {
-        found.push(personality.ask(image, *question))?;
-    }
-    Ok(found)
+    questions
+        .iter()
+        .map(|question| personality.ask(image, *question))
+        .collect(heap)
 }
 
 impl Scenario {

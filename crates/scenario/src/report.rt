@@ -1,16 +1,18 @@
 // What a report prints of questions: each in canonical form, and their number by verdict.
 ghost use Rattle.std.specs.Prelude.{◌≡◌, Some};
-ghost use Rattle.scenario.specs.Reports.{no_questions, noted, tally_text};
+ghost use Rattle.scenario.specs.Reports.{asked_text, no_questions, noted, tally_text};
 
 use crate::script::Scenario;
 use personality::verdict::{Question, Verdict};
 use std::{fmt, io};
 
 // A question as a statement: decimal numbers without leading zeros, the class in sixteen hexadecimal digits.
-#[derive(Clone, Copy)]
+#[derive(Clone, Copy, PartialEq, Eq, Debug)]
 pub struct Asked(pub Question);
 
 impl fmt::Display for Asked {
+    ghost output = { λ a. Some (asked_text a.0) };
+
     fn fmt<W: fmt::Write>(&self, f: &mut fmt::Formatter<W>) -> fmt::Result {
         let unit = self.0.unit;
         let place = self.0.place;
@@ -22,7 +24,7 @@ impl fmt::Display for Asked {
 }
 
 // How many questions were asked, and how many got each verdict. No list is so long that a counter would stop.
-#[derive(Clone, Copy, PartialEq, Eq, Debug)]
+#[derive(Clone, Copy, PartialEq, Eq, Debug, Default)]
 pub struct Tally {
     pub questions: u64,
     pub nothing: u64,
@@ -36,14 +38,7 @@ impl Tally {
     pub fn new() -> Tally
         ensures { result ≡ no_questions }
     {
-        Tally {
-            questions: 0,
-            nothing: 0,
-            cleanup: 0,
-            handler: 0,
-            terminate: 0,
-            broken: 0,
-        }
+        Tally::default()
     }
 
     // One more question that got this verdict.

@@ -1,5 +1,5 @@
 // A scenario as a whole: what its lines have set up, and the questions that they ask.
-ghost use Rattle.std.specs.Prelude.{◌≡◌, vec_len, MatchResult, OnOk};
+ghost use Rattle.std.specs.Prelude.{◌≡◌, None, Some, vec_len, MatchResult, OnOk};
 ghost use Rattle.scenario.specs.Scripts.{Added, Follows, Fresh, ReadWhole, StoppedAt};
 
 use crate::statement::{Statement, read_statement};
@@ -9,6 +9,21 @@ use scenario_plan::plan::LeafPlan;
 use scenario_text::mistake::{Mistake, Wrong};
 use scenario_text::words::words;
 use std::alloc::Global;
+
+// Gives what a scenario may be given once.
+fn give_once<'t, T: Drop>(
+    place: &mut Option<T>,
+    value: T,
+    statement: &'t str,
+) -> Result<(), Wrong<'t>>
+    ensures { OnOk result ((place.old ≡ None) × (place.new ≡ Some value)) }
+{
+    if place.is_some() {
+        return Err(Wrong::GivenTwice(statement));
+    }
+    *place = Some(value);
+    Ok(())
+}
 
 #[derive(Drop)]
 pub struct Scenario {
@@ -51,17 +66,11 @@ impl Scenario {
             }
             Statement::Personality(plan) => {
                 self.still_setting_up("personality")?;
-                if self.personality.is_some() {
-                    return Err(Wrong::GivenTwice("personality"));
-                }
-                self.personality = Some(plan);
+                give_once(&mut self.personality, plan, "personality")?;
             }
             Statement::Serials(number) => {
                 self.still_setting_up("serials")?;
-                if self.serials.is_some() {
-                    return Err(Wrong::GivenTwice("serials"));
-                }
-                self.serials = Some(number);
+                give_once(&mut self.serials, number, "serials")?;
             }
             Statement::Ask(question) => {
                 if self.personality.is_none() {
@@ -89,12 +98,10 @@ impl Scenario {
         ensures { MatchResult result (λ s. ReadWhole text.now s) (λ m. StoppedAt text.now m.line) }
     {
         let mut all = Scenario::new(heap);
-        let mut number = 0usize;
-        for line in text.lines() {
-            number += 1;
+        for (index, line) in text.lines().enumerate() {
             if let Err(wrong) = all.read_line(heap, line) {
                 return Err(Mistake {
-                    line: number,
+                    line: index + 1,
                     wrong,
                 });
             }

@@ -9,7 +9,6 @@ use scenario_plan::plan::LeafPlan;
 use scenario_plan::read::read_plan;
 use scenario_text::mistake::{Form, Wrong};
 use scenario_text::number::{read_byte, read_class, read_u16, read_u32};
-use scenario_text::words::after;
 use std::alloc::Global;
 
 #[derive(Drop)]
@@ -88,11 +87,8 @@ pub fn read_statement<'t>(heap: Global, words: &[&'t str]) -> Result<Option<Stat
     ensures { IfOk result (λ s. SaysLine s words.now) }
 {
     match words {
-        ["image", ..] => Ok(Some(Statement::Image(bytes(heap, after(words, 1))?))),
-        ["personality", ..] => Ok(Some(Statement::Personality(personality(
-            heap,
-            after(words, 1),
-        )?))),
+        ["image", rest @ ..] => Ok(Some(Statement::Image(bytes(heap, rest)?))),
+        ["personality", rest @ ..] => Ok(Some(Statement::Personality(personality(heap, rest)?))),
         ["serials", ..] => Ok(Some(Statement::Serials(serials(words)?))),
         ["ask", ..] => Ok(Some(Statement::Ask(question(words)?))),
         [other, ..] => Err(Wrong::NotAStatement(*other)),

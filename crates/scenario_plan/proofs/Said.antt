@@ -1,6 +1,6 @@
 -- Layers are said by their parts, and what is said leaves no more words than there were.
 use Rattle.std.proofs.Common.{◌≡◌, ℕ, ◌<◌, ◌≤◌, List, [], ◌∷◌, length, drop, IfOk, Ok, Err, vec_items, codes, Result, sym, ap, subst, arith, length-drop}
-use Rattle.composed.specs.Tree.{PairOf, GuestOf}
+use Rattle.composed.specs.Tree.{PairOf}
 use Rattle.composed.specs.declared.tree.Composed.{Composed}
 use Rattle.composed.specs.declared.tree.Composed.TheVariants.{Leaf, Pair', Guest'}
 use Rattle.scenario_text.specs.Words.{Words, word, Begins}
@@ -20,13 +20,6 @@ says_pair (Guest' _ below) a b ws next mid rest made name e h k = absurd made
 says_pair (Pair' _ first _ second) a b ws next mid rest made name e h k =
     let h' = subst (λ (w : Words). Enclosed (Says a) w mid) e h in
     (name, (mid, subst (λ (y : Composed LeafPlan). Enclosed (Says y) (drop 1 ws) mid) (sym made.0) h', subst (λ (y : Composed LeafPlan). Enclosed (Says y) mid rest) (sym made.1) k))
-
-pub says_guest : (x a : Composed LeafPlan) (ws next rest : Words) → GuestOf x a → Begins ws (codes "guest") → next ≡ drop 1 ws → Enclosed (Says a) next rest → Says x ws rest
-says_guest (Leaf p) a ws next rest made name e h = absurd made
-says_guest (Pair' _ first _ second) a ws next rest made name e h = absurd made
-says_guest (Guest' _ below) a ws next rest made name e h =
-    let h' = subst (λ (w : Words). Enclosed (Says a) w rest) e h in
-    (name, subst (λ (y : Composed LeafPlan). Enclosed (Says y) (drop 1 ws) rest) (sym made) h')
 
 lists_shorter : (ns : List ℕ) (ws rest : Words) → Lists ns ws rest → length rest ≤ length ws
 lists_shorter [] ws rest h = omega (arith, ap length h.0)

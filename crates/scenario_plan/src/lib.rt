@@ -1,5 +1,5 @@
 // Personalities as scenarios write them: plans that own their lists, read from words, and built over those lists.
-#![tactic(auto)]
+#![tactic(auto, using(std::proofs::lemmas::List::take_rest))]
 
 pub mod build;
 pub mod plan;

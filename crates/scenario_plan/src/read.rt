@@ -9,7 +9,6 @@ use composed::tree::Composed;
 use personality::layers::Release;
 use scenario_text::mistake::{Form, Wrong};
 use scenario_text::number::{read_u16, read_u32};
-use scenario_text::words::after;
 use std::alloc::Global;
 
 // What was read, and the words after it.
@@ -24,15 +23,11 @@ fn bracket<'w, 't>(words: &'w [&'t str], mark: &'t str) -> Result<&'w [&'t str],
     ensures { IfOk result (λ rest. Begins words.now mark.now × (rest.now ≡ drop 1 words.now)) }
 {
     match words {
-        [first, ..] => {
-            if *first == mark {
-                return Ok(after(words, 1));
-            }
-            Err(Wrong::NotBracket {
-                word: *first,
-                bracket: mark,
-            })
-        }
+        [first, rest @ ..] if *first == mark => Ok(rest),
+        [first, ..] => Err(Wrong::NotBracket {
+            word: *first,
+            bracket: mark,
+        }),
         [] => Err(Wrong::NoBracket(mark)),
     }
 }
@@ -43,12 +38,12 @@ fn parents<'w, 't>(heap: Global, words: &'w [&'t str]) -> Result<Read<'w, 't, Ve
 {
     let mut found = Vec::new(heap);
     let mut rest = words;
-    while let [first, ..] = rest {
+    while let [first, others @ ..] = rest {
         if *first == ")" {
-            return Ok(Read { found, rest });
+            break;
         }
         found.push(read_u16(*first)?)?;
-        rest = after(rest, 1);
+        rest = others;
     }
     Ok(Read { found, rest })
 }
@@ -60,16 +55,16 @@ fn language<'w, 't>(
     ensures { IfOk result (λ x. SaysLanguage x.found words.now x.rest.now) }
 {
     match words {
-        ["tree", ..] => {
-            let read = parents(heap, after(words, 1))?;
+        ["tree", rest @ ..] => {
+            let read = parents(heap, rest)?;
             Ok(Read {
                 found: LanguagePlan::Tree(read.found),
                 rest: read.rest,
             })
         }
-        ["exact", ..] => Ok(Read {
+        ["exact", rest @ ..] => Ok(Read {
             found: LanguagePlan::Exact,
-            rest: after(words, 1),
+            rest,
         }),
         [other, ..] => Err(Wrong::NotALanguage(*other)),
         [] => Err(Wrong::Takes(Form::Language)),
@@ -80,16 +75,13 @@ fn release<'w, 't>(words: &'w [&'t str]) -> Result<Read<'w, 't, Release>, Wrong<
     ensures { IfOk result (λ x. SaysRelease x.found words.now x.rest.now) }
 {
     match words {
-        [lo, hi, pad, ..] => {
+        [lo, hi, pad, rest @ ..] => {
             let found = Release {
                 lo: read_u32(*lo)?,
                 hi: read_u32(*hi)?,
                 pad: read_u32(*pad)?,
             };
-            Ok(Read {
-                found,
-                rest: after(words, 3),
-            })
+            Ok(Read { found, rest })
         }
         _ => Err(Wrong::Takes(Form::Release)),
     }
@@ -99,11 +91,11 @@ fn table<'w, 't>(heap: Global, words: &'w [&'t str]) -> Result<Read<'w, 't, Tabl
     ensures { IfOk result (λ x. SaysTable x.found words.now x.rest.now) }
 {
     match words {
-        [start, length, function, ..] => {
+        [start, length, function, rest @ ..] => {
             let start = read_u32(*start)?;
             let length = read_u32(*length)?;
             let function = read_u32(*function)?;
-            let read = language(heap, after(words, 3))?;
+            let read = language(heap, rest)?;
             Ok(Read {
                 found: TablePlan {
                     start,
@@ -122,22 +114,22 @@ fn leaf<'w, 't>(heap: Global, words: &'w [&'t str]) -> Result<Read<'w, 't, LeafP
     ensures { IfOk result (λ x. SaysLeaf x.found words.now x.rest.now) }
 {
     match words {
-        ["release", ..] => {
-            let read = release(after(words, 1))?;
+        ["release", rest @ ..] => {
+            let read = release(rest)?;
             Ok(Read {
                 found: LeafPlan::Release(read.found),
                 rest: read.rest,
             })
         }
-        ["lsda", ..] => {
-            let read = table(heap, after(words, 1))?;
+        ["lsda", rest @ ..] => {
+            let read = table(heap, rest)?;
             Ok(Read {
                 found: LeafPlan::Lsda(read.found),
                 rest: read.rest,
             })
         }
-        ["sjlj", ..] => {
-            let read = table(heap, after(words, 1))?;
+        ["sjlj", rest @ ..] => {
+            let read = table(heap, rest)?;
             Ok(Read {
                 found: LeafPlan::Sjlj(read.found),
                 rest: read.rest,
@@ -201,13 +193,13 @@ pub fn read_plan<'w, 't>(
     ensures { IfOk result (λ x. Says x.found words.now x.rest.now) }
 {
     match words {
-        ["pair", ..] => {
-            let first = enclosed(heap, after(words, 1))?;
+        ["pair", rest @ ..] => {
+            let first = enclosed(heap, rest)?;
             let second = enclosed(heap, first.rest)?;
             both(heap, first.found, second)
         }
-        ["guest", ..] => {
-            let below = enclosed(heap, after(words, 1))?;
+        ["guest", rest @ ..] => {
+            let below = enclosed(heap, rest)?;
             hosted(heap, below)
         }
         _ => {

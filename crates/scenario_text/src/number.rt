@@ -1,12 +1,12 @@
 // Numbers, which are written in digits alone: std's readers would take a sign.
-ghost use Rattle.std.specs.Prelude.{◌^◌, ◌≤◌};
+ghost use Rattle.std.specs.Prelude.{◌+◌, ◌^◌, ◌≤◌};
 ghost use Rattle.scenario_text.specs.Numbers.{Written, ByteWritten};
 
 use crate::mistake::Wrong;
 use std::num::IntErrorKind;
 
 // Why a word is no number.
-#[derive(Clone, Copy)]
+#[derive(Clone, Copy, PartialEq, Eq, Debug)]
 enum Misread {
     NotDigits,
     TooLarge,
@@ -21,25 +21,18 @@ fn number(word: &str, radix: u32) -> Result<u64, Misread>
     }
     match u64::from_str_radix(word, radix) {
         Ok(n) => Ok(n),
-        Err(e) => match e.kind() {
-            IntErrorKind::PosOverflow => Err(Misread::TooLarge),
-            _ => Err(Misread::NotDigits),
-        },
+        Err(e) if *e.kind() == IntErrorKind::PosOverflow => Err(Misread::TooLarge),
+        Err(_) => Err(Misread::NotDigits),
     }
 }
 
-// A decimal number of this many bits, which is one below the limit.
-fn decimal<'a>(word: &'a str, bits: u8, limit: u64) -> Result<u64, Wrong<'a>>
-    ensures { Written 10 limit word.now result }
+// A decimal number of this many bits, which is at most the largest.
+fn decimal<'a>(word: &'a str, bits: u8, largest: u64) -> Result<u64, Wrong<'a>>
+    ensures { Written 10 (largest + 1) word.now result }
 {
     match number(word, 10) {
-        Ok(n) => {
-            if n < limit {
-                return Ok(n);
-            }
-            Err(Wrong::TooLarge { word, bits })
-        }
-        Err(Misread::TooLarge) => Err(Wrong::TooLarge { word, bits }),
+        Ok(n) if n <= largest => Ok(n),
+        Ok(_) | Err(Misread::TooLarge) => Err(Wrong::TooLarge { word, bits }),
         Err(Misread::NotDigits) => Err(Wrong::NotDecimal(word)),
     }
 }
@@ -48,14 +41,14 @@ fn decimal<'a>(word: &'a str, bits: u8, limit: u64) -> Result<u64, Wrong<'a>>
 pub fn read_u16<'a>(word: &'a str) -> Result<u16, Wrong<'a>>
     ensures { Written 10 (2 ^ 16) word.now result }
 {
-    Ok(decimal(word, 16, 0x1_0000)? as u16)
+    Ok(decimal(word, 16, u64::from(u16::MAX))? as u16)
 }
 
 // A place, a serial or any other number of a table or a frame.
 pub fn read_u32<'a>(word: &'a str) -> Result<u32, Wrong<'a>>
     ensures { Written 10 (2 ^ 32) word.now result }
 {
-    Ok(decimal(word, 32, 0x1_0000_0000)? as u32)
+    Ok(decimal(word, 32, u64::from(u32::MAX))? as u32)
 }
 
 pub fn read_class<'a>(word: &'a str) -> Result<u64, Wrong<'a>>

@@ -1,5 +1,5 @@
 // The words of a line.
-ghost use Rattle.std.specs.Prelude.{◌≡◌, ℕ, List, drop, IfOk};
+ghost use Rattle.std.specs.Prelude.{ℕ, List, IfOk};
 ghost use Rattle.scenario_text.specs.Words.{Uncommented, WordsOf};
 
 use std::alloc::{AllocError, Global};
@@ -8,10 +8,7 @@ use std::alloc::{AllocError, Global};
 fn code(line: &str) -> &str
     ensures { Uncommented line.now result.now }
 {
-    match line.split_once('#') {
-        Some((before, _comment)) => before,
-        None => line,
-    }
+    line.split_once('#').map_or(line, |(before, _comment)| before)
 }
 
 pub fn words(heap: Global, line: &str) -> Result<Vec<&str>, AllocError>
@@ -22,11 +19,4 @@ pub fn words(heap: Global, line: &str) -> Result<Vec<&str>, AllocError>
         found.push(word)?;
     }
     Ok(found)
-}
-
-// The words after the first n.
-pub fn after<'w, 't>(words: &'w [&'t str], n: usize) -> &'w [&'t str]
-    ensures { result.now ≡ drop n words.now }
-{
-    if n <= words.len() { &words[n..] } else { &[] }
 }

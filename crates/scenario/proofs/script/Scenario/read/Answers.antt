@@ -1,15 +1,21 @@
-use Rattle.std.proofs.Common.{◌≡◌, ℕ, List, length, sym, ap, ◌∙◌, subst, arith, rules}
-use Rattle.std.specs.Str.Iter.{lines_rest}
-use Rattle.scenario.specs.Scripts.{Reached, start, line}
+use Rattle.std.proofs.Common.{◌+◌, ap}
+use Rattle.scenario.specs.Scripts.{start, line}
 use Rattle.scenario.proofs.script.Scenario.read.Goals as goal
 
-pub loop-line-init : goal.loop-line-init
-loop-line-init c =
-    let all : lines_rest c.into_iter-line-iterator.result ≡ c.args.text.now = ap lines_rest c.into_iter-line-iterator.ensures.into_iter_gives ∙ c.lines-line-items.ensures.rest in
-    let first = c.new-all.result in
-    (c.new-all.ensures, subst (λ (left : List ℕ). Reached c.args.text.now first 0 first left) (sym all) start, omega (arith, ap length all))
+pub loop-index-init : goal.loop-index-init
+loop-index-init c =
+    let same = c.into_iter-index-iterator.ensures.into_iter_gives in
+    let made = c.enumerate-index-items.ensures in
+    (c.new-all.ensures, rw (same, made.source, made.count, c.lines.ensures.rest) start)
 
-pub loop-line-preserved : goal.loop-line-preserved
-loop-line-preserved c =
-    let step = c.in-Some.ensures.steps.0 in
-    (c.loop-line.invariant.0, line c.loop-line.number c.loop-line.all _ c.in-Some.line.now _ _ c.loop-line.invariant.1 step.0 step.2 c.in_default.ensures, search rules)
+pub returns-in-Err : goal.returns-in-Err
+returns-in-Err c =
+    let step = c.in-Some.ensures.steps in
+    let reached = c.loop-index.invariant in
+    (_, _, _, _, reached.0, reached.1, step.0.0.0, ap (λ n. n + 1) step.1)
+
+pub loop-index-preserved : goal.loop-index-preserved
+loop-index-preserved c =
+    let step = c.in-Some.ensures.steps in
+    let reached = c.loop-index.invariant in
+    (reached.0, rw step.2 (line _ _ _ c.in-Some.line.now _ _ reached.1 step.0.0.0 step.0.0.2 c.in_default.ensures))
