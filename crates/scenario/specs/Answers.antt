@@ -2,12 +2,12 @@
 use Rattle.std.specs.Prelude.{◌≡◌, ℕ, List, [], map, Some, None, Option}
 use Rattle.personality.specs.declared.verdict.Question.{Question}
 use Rattle.personality.specs.declared.verdict.Verdict.{Verdict}
+use Rattle.composed.specs.Leaf.{leaf_verdict}
 use Rattle.composed.specs.Tree.{composed_verdict}
+use Rattle.composed.specs.declared.leaf.Leaf.{Leaf}
 use Rattle.composed.specs.declared.tree.Composed.{Composed}
-use Rattle.scenario_plan.specs.Verdicts.{planned_verdict}
-use Rattle.scenario_plan.specs.declared.plan.LeafPlan.{LeafPlan}
 
 -- each question's answer is the verdict of the personality that the plan names
-abbrev pub Answered : Option (Composed LeafPlan) → List ℕ → List Question → List Verdict → Type 0
+abbrev pub Answered : Option (Composed Leaf) → List ℕ → List Question → List Verdict → Type 0
 Answered None image questions answers = answers ≡ []
-Answered (Some plan) image questions answers = answers ≡ map (composed_verdict planned_verdict plan image) questions
+Answered (Some plan) image questions answers = answers ≡ map (composed_verdict leaf_verdict plan image) questions

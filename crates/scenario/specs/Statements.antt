@@ -2,8 +2,8 @@
 use Rattle.std.specs.Prelude.{◌≡◌, ℕ, ◌<◌, ◌≤◌, Bool, true, false, List, length, drop, Some, None, vec_items, codes, Option, slice_index}
 use Rattle.std.specs.Str.Parse.{IsNumeral, digits_value}
 use Rattle.personality.specs.declared.verdict.Question.{Question}
+use Rattle.composed.specs.declared.leaf.Leaf.{Leaf}
 use Rattle.composed.specs.declared.tree.Composed.{Composed}
-use Rattle.scenario_plan.specs.declared.plan.LeafPlan.{LeafPlan}
 use Rattle.scenario_text.specs.Words.{Words, word, Begins, Writes}
 use Rattle.scenario_plan.specs.Says.{Says}
 use Rattle.scenario.specs.declared.statement.Statement.{Statement}
@@ -22,7 +22,7 @@ abbrev pub SaysQuestion : Question → Words → Type 0
 SaysQuestion q ws = (length ws ≡ 6) × Writes 10 ws 1 q.unit × Writes 10 ws 2 q.place × Writes 16 ws 3 q.class × Writes 10 ws 4 q.thrown × Forced (word ws 5) q.forced
 
 -- the words say the plan, and none is left
-abbrev pub SaysAll : Composed LeafPlan → Words → Type 0
+abbrev pub SaysAll : Composed Leaf → Words → Type 0
 SaysAll plan ws = (rest : Words) × Says plan ws rest × (length rest ≡ 0)
 
 abbrev pub SaysStatement : Statement → Words → Type 0

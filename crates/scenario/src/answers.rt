@@ -5,7 +5,6 @@ ghost use Rattle.scenario.specs.Answers.{Answered};
 use crate::script::Scenario;
 use personality::interface::Personality;
 use personality::verdict::{Question, Verdict};
-use scenario_plan::build::build;
 use std::alloc::{AllocError, Global};
 
 fn answer_all<P: Personality>(
@@ -28,15 +27,12 @@ impl Scenario {
         ensures { IfOk result (λ v. Answered self.now.personality self.now.image.items self.now.questions.items v.items) }
     {
         match &self.personality {
-            Some(plan) => {
-                let personality = build(heap, plan)?;
-                answer_all(
-                    heap,
-                    &personality,
-                    self.image.as_slice(),
-                    self.questions.as_slice(),
-                )
-            }
+            Some(personality) => answer_all(
+                heap,
+                personality,
+                self.image.as_slice(),
+                self.questions.as_slice(),
+            ),
             None => Ok(Vec::new(heap)),
         }
     }

@@ -3,9 +3,9 @@ ghost use Rattle.std.specs.Prelude.{◌≡◌, None, Some, vec_len, MatchResult,
 ghost use Rattle.scenario.specs.Scripts.{Added, Follows, Fresh, ReadWhole, StoppedAt};
 
 use crate::statement::{Statement, read_statement};
+use composed::leaf::Leaf;
 use composed::tree::Composed;
 use personality::verdict::Question;
-use scenario_plan::plan::LeafPlan;
 use scenario_text::mistake::{Mistake, Wrong};
 use scenario_text::words::words;
 use std::alloc::Global;
@@ -28,7 +28,7 @@ fn give_once<'t, T: Drop>(
 #[derive(Drop)]
 pub struct Scenario {
     pub image: Vec<u8>,
-    pub personality: Option<Composed<LeafPlan>>,
+    pub personality: Option<Composed<Leaf>>,
     // what the runtime is set up with; 0 where it is not given
     pub serials: Option<u32>,
     pub questions: Vec<Question>,

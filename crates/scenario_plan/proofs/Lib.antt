@@ -1,3 +1,2 @@
 pub mod Listed
 pub mod Said
-pub mod Verdicts

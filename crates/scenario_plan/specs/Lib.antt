@@ -1,3 +1,1 @@
-pub mod Plans
 pub mod Says
-pub mod Verdicts

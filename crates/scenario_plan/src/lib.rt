@@ -1,6 +1,4 @@
-// Personalities as scenarios write them: plans that own their lists, read from words, and built over those lists.
-#![tactic(auto, using(std::proofs::lemmas::List::take_rest))]
+// Personalities as scenarios write them, read from words.
+#![tactic(auto)]
 
-pub mod build;
-pub mod plan;
 pub mod read;

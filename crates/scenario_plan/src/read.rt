@@ -1,11 +1,13 @@
-// Plans read from words, by recursive descent: each reader gives what it read, and the words that are left.
+// Personalities read from words, by recursive descent: each reader gives what it read, and the words that are left.
 ghost use Rattle.std.specs.Prelude.{◌≡◌, drop, IfOk};
 ghost use Rattle.scenario_plan.specs.Says.{Lists, SaysLanguage, SaysRelease, SaysTable, SaysLeaf, Enclosed, Says};
 ghost use Rattle.scenario_text.specs.Words.{Begins};
 ghost use Rattle.composed.specs.Tree.{PairOf, GuestOf};
 
-use crate::plan::{LanguagePlan, LeafPlan, TablePlan};
+use composed::leaf::{AnyLanguage, Leaf};
 use composed::tree::Composed;
+use lsda::Layout;
+use lsda::leaf::Table;
 use personality::layers::Release;
 use scenario_text::mistake::{Form, Wrong};
 use scenario_text::number::{read_u16, read_u32};
@@ -16,6 +18,20 @@ use std::alloc::Global;
 pub struct Read<'w, 't, T> {
     pub found: T,
     pub rest: &'w [&'t str],
+}
+
+impl<'w, 't, T> Read<'w, 't, T> {
+    // What f makes of what was read, before the same words.
+    fn map<U, F: FnOnce(T) -> U>(self, f: F) -> Read<'w, 't, U>
+        requires { F.pre f self.found }
+        ensures found { F.post f self.entry.found result.found }
+        ensures rest { result.rest.now ≡ self.entry.rest.now }
+    {
+        Read {
+            found: f(self.found),
+            rest: self.rest,
+        }
+    }
 }
 
 // The words after a bracket.
@@ -51,19 +67,13 @@ fn parents<'w, 't>(heap: Global, words: &'w [&'t str]) -> Result<Read<'w, 't, Ve
 fn language<'w, 't>(
     heap: Global,
     words: &'w [&'t str],
-) -> Result<Read<'w, 't, LanguagePlan>, Wrong<'t>>
+) -> Result<Read<'w, 't, AnyLanguage>, Wrong<'t>>
     ensures { IfOk result (λ x. SaysLanguage x.found words.now x.rest.now) }
 {
     match words {
-        ["tree", rest @ ..] => {
-            let read = parents(heap, rest)?;
-            Ok(Read {
-                found: LanguagePlan::Tree(read.found),
-                rest: read.rest,
-            })
-        }
+        ["tree", rest @ ..] => Ok(parents(heap, rest)?.map(AnyLanguage::Tree)),
         ["exact", rest @ ..] => Ok(Read {
-            found: LanguagePlan::Exact,
+            found: AnyLanguage::Exact,
             rest,
         }),
         [other, ..] => Err(Wrong::NotALanguage(*other)),
@@ -87,8 +97,14 @@ fn release<'w, 't>(words: &'w [&'t str]) -> Result<Read<'w, 't, Release>, Wrong<
     }
 }
 
-fn table<'w, 't>(heap: Global, words: &'w [&'t str]) -> Result<Read<'w, 't, TablePlan>, Wrong<'t>>
-    ensures { IfOk result (λ x. SaysTable x.found words.now x.rest.now) }
+// What follows the word for a layout.
+fn table<'w, 't>(
+    heap: Global,
+    layout: Layout,
+    words: &'w [&'t str],
+) -> Result<Read<'w, 't, Table<AnyLanguage>>, Wrong<'t>>
+    ensures said { IfOk result (λ x. SaysTable x.found words.now x.rest.now) }
+    ensures kind { IfOk result (λ x. x.found.layout ≡ layout) }
 {
     match words {
         [start, length, function, rest @ ..] => {
@@ -97,7 +113,8 @@ fn table<'w, 't>(heap: Global, words: &'w [&'t str]) -> Result<Read<'w, 't, Tabl
             let function = read_u32(*function)?;
             let read = language(heap, rest)?;
             Ok(Read {
-                found: TablePlan {
+                found: Table {
+                    layout,
                     start,
                     length,
                     function,
@@ -110,31 +127,13 @@ fn table<'w, 't>(heap: Global, words: &'w [&'t str]) -> Result<Read<'w, 't, Tabl
     }
 }
 
-fn leaf<'w, 't>(heap: Global, words: &'w [&'t str]) -> Result<Read<'w, 't, LeafPlan>, Wrong<'t>>
+fn leaf<'w, 't>(heap: Global, words: &'w [&'t str]) -> Result<Read<'w, 't, Leaf>, Wrong<'t>>
     ensures { IfOk result (λ x. SaysLeaf x.found words.now x.rest.now) }
 {
     match words {
-        ["release", rest @ ..] => {
-            let read = release(rest)?;
-            Ok(Read {
-                found: LeafPlan::Release(read.found),
-                rest: read.rest,
-            })
-        }
-        ["lsda", rest @ ..] => {
-            let read = table(heap, rest)?;
-            Ok(Read {
-                found: LeafPlan::Lsda(read.found),
-                rest: read.rest,
-            })
-        }
-        ["sjlj", rest @ ..] => {
-            let read = table(heap, rest)?;
-            Ok(Read {
-                found: LeafPlan::Sjlj(read.found),
-                rest: read.rest,
-            })
-        }
+        ["release", rest @ ..] => Ok(release(rest)?.map(Leaf::Release)),
+        ["lsda", rest @ ..] => Ok(table(heap, Layout::Lsda, rest)?.map(Leaf::Table)),
+        ["sjlj", rest @ ..] => Ok(table(heap, Layout::Sjlj, rest)?.map(Leaf::Table)),
         [other, ..] => Err(Wrong::NotAPersonality(*other)),
         [] => Err(Wrong::Takes(Form::Personality)),
     }
@@ -143,9 +142,9 @@ fn leaf<'w, 't>(heap: Global, words: &'w [&'t str]) -> Result<Read<'w, 't, LeafP
 // The pair of what was read first and then.
 fn both<'w, 't>(
     heap: Global,
-    first: Composed<LeafPlan>,
-    then: Read<'w, 't, Composed<LeafPlan>>,
-) -> Result<Read<'w, 't, Composed<LeafPlan>>, Wrong<'t>>
+    first: Composed<Leaf>,
+    then: Read<'w, 't, Composed<Leaf>>,
+) -> Result<Read<'w, 't, Composed<Leaf>>, Wrong<'t>>
     ensures { IfOk result (λ x. PairOf x.found first then.entry.found × (x.rest.now ≡ then.entry.rest.now)) }
 {
     Ok(Read {
@@ -157,8 +156,8 @@ fn both<'w, 't>(
 // The guest over what was read.
 fn hosted<'w, 't>(
     heap: Global,
-    below: Read<'w, 't, Composed<LeafPlan>>,
-) -> Result<Read<'w, 't, Composed<LeafPlan>>, Wrong<'t>>
+    below: Read<'w, 't, Composed<Leaf>>,
+) -> Result<Read<'w, 't, Composed<Leaf>>, Wrong<'t>>
     ensures { IfOk result (λ x. GuestOf x.found below.entry.found × (x.rest.now ≡ below.entry.rest.now)) }
 {
     Ok(Read {
@@ -167,12 +166,12 @@ fn hosted<'w, 't>(
     })
 }
 
-// A plan in brackets.
+// A personality in brackets.
 #[cycle(enclosed_read_plan)]
 fn enclosed<'w, 't>(
     heap: Global,
     words: &'w [&'t str],
-) -> Result<Read<'w, 't, Composed<LeafPlan>>, Wrong<'t>>
+) -> Result<Read<'w, 't, Composed<Leaf>>, Wrong<'t>>
     ensures { IfOk result (λ x. Enclosed (Says x.found) words.now x.rest.now) }
 {
     let inside = bracket(words, "(")?;
@@ -184,12 +183,12 @@ fn enclosed<'w, 't>(
     })
 }
 
-// The plan that the words begin with.
+// The personality that the words begin with.
 #[cycle(enclosed_read_plan)]
 pub fn read_plan<'w, 't>(
     heap: Global,
     words: &'w [&'t str],
-) -> Result<Read<'w, 't, Composed<LeafPlan>>, Wrong<'t>>
+) -> Result<Read<'w, 't, Composed<Leaf>>, Wrong<'t>>
     ensures { IfOk result (λ x. Says x.found words.now x.rest.now) }
 {
     match words {
@@ -202,12 +201,6 @@ pub fn read_plan<'w, 't>(
             let below = enclosed(heap, rest)?;
             hosted(heap, below)
         }
-        _ => {
-            let read = leaf(heap, words)?;
-            Ok(Read {
-                found: Composed::Leaf(read.found),
-                rest: read.rest,
-            })
-        }
+        _ => Ok(leaf(heap, words)?.map(Composed::Leaf)),
     }
 }
