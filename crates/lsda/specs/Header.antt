@@ -76,7 +76,7 @@ header_at bs layout start function =
 
 -- a type base that was read is small enough to count from
 abbrev pub Near : Option TypeTable → Type 0
-Near types = IfSome types (λ t. t.base < 2 ^ 34)
+Near types = IfSome types (λ t. t.base < 2 ^ 63 + 2 ^ 32)
 
 -- what a header that was read gives to the readers of what follows it
 pub record Sound (bs : List ℕ) (h : Header) : Type 0 where

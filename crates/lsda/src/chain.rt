@@ -26,11 +26,7 @@ pub struct Walk {
 fn type_in(entry: Number, at: usize) -> Result<u16, Fault>
     ensures { result ≡ type_of entry at }
 {
-    if 0 <= entry.value && entry.value < 0x1_0000 {
-        Ok(entry.value as u16)
-    } else {
-        Err(Fault::at(Cause::BadTypeEntry, at))
-    }
+    u16::try_from(entry.value).map_err(|_| Fault::at(Cause::BadTypeEntry, at))
 }
 
 // The chain of an action, walked for a question: the bytes end where the table does, and a match or a cleanup lands at the

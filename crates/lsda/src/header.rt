@@ -54,14 +54,11 @@ fn non_negative(number: Number, at: usize) -> Result<Unsigned, Fault>
     ensures is { result ≡ natural number at }
     ensures within { IfOk result (λ n. n.next ≡ number.next) }
 {
-    if number.value < 0 {
-        Err(Fault::at(Cause::BadAddress, at))
-    } else {
-        Ok(Read {
-            value: number.value as u32,
-            next: number.next,
-        })
-    }
+    let value = u32::try_from(number.value).map_err(|_| Fault::at(Cause::BadAddress, at))?;
+    Ok(Read {
+        value,
+        next: number.next,
+    })
 }
 
 // The landing start, which is the function start where it is omitted.
@@ -93,7 +90,6 @@ fn type_entry_width(code: u8, at: usize) -> Result<Width, Fault>
 
 // The type table, where there is one.
 fn read_types(bytes: &[u8], at: usize) -> Result<Read<Option<TypeTable>>, Fault>
-    requires { length bytes.now < 2 ^ 33 }
     ensures is { result ≡ types_at bytes.now at }
     ensures within { IfOk result (λ t. (t.next ≤ length bytes.now) × Near t.value) }
 {
@@ -146,7 +142,6 @@ pub(crate) fn read_header(
     function: u32,
     layout: Layout,
 ) -> Result<Header, Fault>
-    requires { length bytes.now < 2 ^ 33 }
     ensures is { result ≡ header_at bytes.now layout start function }
     ensures sound { IfOk result (Sound bytes.now) }
 {

@@ -79,11 +79,8 @@ fn make_address(base: u32, value: i64, at: usize) -> Result<u32, Fault>
     if value < 0 {
         return Err(Fault::at(Cause::BadAddress, at));
     }
-    let sum = base as i64 + value;
-    if sum > 0xffff_ffff {
-        return Err(Fault::at(Cause::BadAddress, at));
-    }
-    Ok(sum as u32)
+    let sum = i64::from(base) + value;
+    u32::try_from(sum).map_err(|_| Fault::at(Cause::BadAddress, at))
 }
 
 impl Ranged {
