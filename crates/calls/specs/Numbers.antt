@@ -1,5 +1,7 @@
--- The numbers of refusals.
-use Rattle.std.specs.Prelude.{ℕ}
+-- The numbers of refusals, and of handlers.
+use Rattle.std.specs.Prelude.{ℕ, ℤ, pos}
+use Rattle.calls.specs.declared.answer.Kind.{Kind}
+use Rattle.calls.specs.declared.answer.Kind.TheVariants.{Cleanup, Handler}
 use Rattle.calls.specs.declared.answer.Refusal.{Refusal}
 use Rattle.calls.specs.declared.answer.Refusal.TheVariants.{FramesFull, NoFrame, CatchOpen, CleanupRuns, ExceptionsFull, SerialsUsedUp, NoSuchException, NotWithRaiser, NoBegunCatch, CatchBelowTop, AlreadyUnwinds, CatchesFull, KeepOutOfRange, Terminated, BrokenTable, PassedFence, NoHandler, NotInnermost, NoUnbegunCatch, NothingWaits}
 
@@ -25,3 +27,8 @@ refusal_number NoHandler = 17
 refusal_number NotInnermost = 18
 refusal_number NoUnbegunCatch = 19
 refusal_number NothingWaits = 20
+
+-- the selector of a landing: 0 at a cleanup
+abbrev pub selector_of : Kind → ℤ
+selector_of Cleanup = pos 0
+selector_of (Handler selector) = selector

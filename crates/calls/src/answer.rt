@@ -1,28 +1,38 @@
 // What a call answers.
 ghost use Rattle.std.specs.Prelude.{◌≡◌};
-ghost use Rattle.calls.specs.Numbers.{refusal_number};
+ghost use Rattle.calls.specs.Numbers.{refusal_number, selector_of};
 
 use personality::fault::Fault;
 
 // Where an unwinding lands: to run a cleanup, or to enter the handler that its search found.
-#[derive(Clone, Copy)]
+#[derive(Clone, Copy, PartialEq, Eq, Debug)]
 pub enum Kind {
     Cleanup,
-    Handler,
+    Handler { selector: i32 },
 }
 
-// The exception's serial, the number of the frame (0 at the bottom), the landing pad that it goes on at, and the selector of
-// the handler, 0 at a cleanup.
-#[derive(Clone, Copy)]
+impl Kind {
+    // The selector that a landing answers: the handler's, 0 at a cleanup.
+    pub fn selector(self) -> i32
+        ensures { result ≡ selector_of self }
+    {
+        match self {
+            Kind::Cleanup => 0,
+            Kind::Handler { selector } => selector,
+        }
+    }
+}
+
+// The exception's serial, the number of the frame (0 at the bottom), and the landing pad that it goes on at.
+#[derive(Clone, Copy, PartialEq, Eq, Debug)]
 pub struct Landing {
     pub serial: u32,
     pub frame: usize,
     pub pad: u32,
-    pub selector: i32,
     pub kind: Kind,
 }
 
-#[derive(Clone, Copy)]
+#[derive(Clone, Copy, PartialEq, Eq, Debug)]
 pub enum Answer {
     // enter, move, leave, delete
     Done,
@@ -54,7 +64,7 @@ pub enum Answer {
 }
 
 // Why a call is refused. A refused call changes nothing.
-#[derive(Clone, Copy)]
+#[derive(Clone, Copy, PartialEq, Eq, Debug)]
 pub enum Refusal {
     // there are 64 frames
     FramesFull,

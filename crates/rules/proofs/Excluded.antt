@@ -48,7 +48,7 @@ told x keep list said us b a er w p = go a w p
         → All Whole (at_landing x l k (set_running (add_answer x (Landed l) b.running) b)).ended → All Part (at_landing x l k (set_running (add_answer x (Landed l) b.running) b)).running
         → Begins (said ++ (Landed l ∷ [])) list
     lands l kind.Cleanup ek w p = goes_on (Landed l) p
-    lands l kind.Handler ek w p = ends_here (Landed l) w
+    lands l (kind.Handler selector) ek w p = ends_here (Landed l) w
 
     go : (a : Answer) → All Whole (answered x a b).ended → All Part (answered x a b).running → Begins (said ++ (a ∷ [])) list
     go Done w p = goes_on Done p

@@ -1,5 +1,5 @@
 -- The invariant between state and book.
-use Rattle.std.proofs.Common.{◌≡◌, ℕ, suc, ◌≤◌, Bool, true, false, cond, ◌≢◌, List, [], ◌∷◌, ◌++◌, map, length, pos, Some, None, Option}
+use Rattle.std.proofs.Common.{◌≡◌, ℕ, suc, ◌≤◌, Bool, true, false, cond, ◌≢◌, List, [], ◌∷◌, ◌++◌, map, length, Some, None, Option}
 use Rattle.personality.specs.declared.verdict.Verdict.{Verdict}
 use Rattle.calls.specs.declared.answer.Answer.{Answer}
 use Rattle.calls.specs.declared.answer.Answer.TheVariants.{Stopped}
@@ -63,7 +63,7 @@ book_of s h =
 
 -- the answer at the goal
 abbrev pub arrival : ℕ → Goal → Answer
-arrival x (goal.Handler frame pad selector) = landing x frame pad selector kind.Handler
+arrival x (goal.Handler frame pad selector) = landing x frame pad (kind.Handler selector)
 arrival x (goal.Keep k) = Stopped x
 
 -- the landings on the way down to a goal, and the answer there
@@ -71,7 +71,7 @@ unfoldable pub way : (Frame → Verdict) → ℕ → Goal → List Frame → Lis
 way ask x g [] = arrival x g ∷ []
 way ask x g (f ∷ fs) =
     cond (reached g (length fs)) (arrival x g ∷ [])
-    (given (cleanup_pad (ask f)) (way ask x g fs) (λ pad. landing x (length fs) pad (pos 0) kind.Cleanup ∷ way ask x g fs))
+    (given (cleanup_pad (ask f)) (way ask x g fs) (λ pad. landing x (length fs) pad kind.Cleanup ∷ way ask x g fs))
 
 -- how many frames are left at the goal
 abbrev pub limit : Goal → ℕ

@@ -1,5 +1,5 @@
 -- What the landing lists contain, and in what order.
-use Rattle.std.proofs.Common.{◌≡◌, ℕ, suc, ◌<◌, ◌≤◌, Bool, true, false, leb, List, [], ◌∷◌, length, ℤ, pos, sym, refl, ap, ◌∙◌, subst, inl, inr, arith}
+use Rattle.std.proofs.Common.{◌≡◌, ℕ, suc, ◌<◌, ◌≤◌, Bool, true, false, leb, List, [], ◌∷◌, length, ℤ, sym, refl, ap, ◌∙◌, subst, inl, inr, arith}
 use Rattle.std.proofs.lemmas.Bool.{leb-true, leb-false, le-leb, lt-leb, true≢false}
 use Rattle.personality.specs.declared.verdict.Verdict.{Verdict}
 use Rattle.personality.specs.declared.verdict.Verdict.TheVariants.{Nothing, Cleanup, Handler, Terminate, Broken}
@@ -21,8 +21,8 @@ module _ (ask : Frame → Verdict) (x : ℕ) where
   -- a raise's list at the top frame
   raise_top : (f : Frame) (fs : List Frame) (vd : Verdict) → ask f ≡ vd → List Answer
   raise_top f fs Nothing e = raise_list ask x fs
-  raise_top f fs (Cleanup pad) e = Landed (record { serial = x; frame = length fs; pad = pad; selector = pos 0; kind = kind.Cleanup }) ∷ raise_list ask x fs
-  raise_top f fs (Handler pad selector) e = Landed (record { serial = x; frame = length fs; pad = pad; selector = selector; kind = kind.Handler }) ∷ []
+  raise_top f fs (Cleanup pad) e = Landed (record { serial = x; frame = length fs; pad = pad; kind = kind.Cleanup }) ∷ raise_list ask x fs
+  raise_top f fs (Handler pad selector) e = Landed (record { serial = x; frame = length fs; pad = pad; kind = kind.Handler selector }) ∷ []
   raise_top f fs Terminate e = raise_list ask x fs
   raise_top f fs (Broken t) e = raise_list ask x fs
 
@@ -80,7 +80,7 @@ module _ (ask : Frame → Verdict) (x : ℕ) where
       go (Broken t) e = rw (raise_at f fs (Broken t) e) i
 
   cleans_in : (fs : List Frame) (a : Answer) (n : ℕ) (g : Frame) (pad : ℕ) → FrameAt n g fs → ask g ≡ Cleanup pad → NoHandlerAbove ask n fs
-      → a ≡ Landed (record { serial = x; frame = n; pad = pad; selector = pos 0; kind = kind.Cleanup }) → In a (raise_list ask x fs)
+      → a ≡ Landed (record { serial = x; frame = n; pad = pad; kind = kind.Cleanup }) → In a (raise_list ask x fs)
   unfolding raise_top
   cleans_in [] a n g pad p e none is = absurd p
   cleans_in (f ∷ fs) a n g pad (inl p) e none is = rw (raise_at f fs (Cleanup pad) (rw (← p.1) e)) (inl (is ∙ rw p.0))
@@ -88,7 +88,7 @@ module _ (ask : Frame → Verdict) (x : ℕ) where
       raise_later f fs a (none (length fs) f (inl (refl, refl)) (frame_low n g fs p)) (cleans_in fs a n g pad p e (λ m h q lt. none m h (inr q) lt) is)
 
   handles_in : (fs : List Frame) (a : Answer) (n : ℕ) (g : Frame) (pad : ℕ) (selector : ℤ) → FrameAt n g fs → ask g ≡ Handler pad selector → NoHandlerAbove ask n fs
-      → a ≡ Landed (record { serial = x; frame = n; pad = pad; selector = selector; kind = kind.Handler }) → In a (raise_list ask x fs)
+      → a ≡ Landed (record { serial = x; frame = n; pad = pad; kind = kind.Handler selector }) → In a (raise_list ask x fs)
   unfolding raise_top
   handles_in [] a n g pad selector p e none is = absurd p
   handles_in (f ∷ fs) a n g pad selector (inl p) e none is = rw (raise_at f fs (Handler pad selector) (rw (← p.1) e)) (inl (is ∙ rw p.0))
@@ -159,7 +159,7 @@ raise_down ask x (f ∷ fs) = subst (Down (suc (length fs))) (sym (raise_at ask 
   where
     go : (vd : Verdict) (e : ask f ≡ vd) → Down (length fs) (raise_list ask x fs) → Down (suc (length fs)) (raise_top ask x f fs vd e)
     go Nothing e d = down_more _ _ d
-    go (Cleanup pad) e d = down_cons (length fs) _ _ (landed_before (record { serial = x; frame = length fs; pad = pad; selector = pos 0; kind = kind.Cleanup }) (length fs) refl) (omega arith) d
+    go (Cleanup pad) e d = down_cons (length fs) _ _ (landed_before (record { serial = x; frame = length fs; pad = pad; kind = kind.Cleanup }) (length fs) refl) (omega arith) d
     go (Handler pad selector) e d = record { low = (omega arith, tt); down = (tt, tt) }
     go Terminate e d = down_more _ _ d
     go (Broken t) e d = down_more _ _ d
@@ -170,7 +170,7 @@ module _ (ask : Frame → Verdict) (x keep : ℕ) where
   -- the frames from the kept ones up: what the top frame adds
   force_top : (fs : List Frame) (vd : Verdict) → List Answer
   force_top fs Nothing = force_list ask x keep fs
-  force_top fs (Cleanup pad) = Landed (record { serial = x; frame = length fs; pad = pad; selector = pos 0; kind = kind.Cleanup }) ∷ force_list ask x keep fs
+  force_top fs (Cleanup pad) = Landed (record { serial = x; frame = length fs; pad = pad; kind = kind.Cleanup }) ∷ force_list ask x keep fs
   force_top fs (Handler pad selector) = force_list ask x keep fs
   force_top fs Terminate = force_list ask x keep fs
   force_top fs (Broken t) = force_list ask x keep fs
@@ -226,7 +226,7 @@ module _ (ask : Frame → Verdict) (x keep : ℕ) where
       go false e = subst (In a) (sym (force_kept f fs (leb-false keep (length fs) e))) i
 
   force_cleans : (fs : List Frame) (a : Answer) (n : ℕ) (g : Frame) (pad : ℕ) → FrameAt n g fs → ask g ≡ Cleanup pad → keep ≤ n
-      → a ≡ Landed (record { serial = x; frame = n; pad = pad; selector = pos 0; kind = kind.Cleanup }) → In a (force_list ask x keep fs)
+      → a ≡ Landed (record { serial = x; frame = n; pad = pad; kind = kind.Cleanup }) → In a (force_list ask x keep fs)
   unfolding force_top
   force_cleans [] a n g pad p e le is = absurd p
   force_cleans (f ∷ fs) a n g pad (inl p) e le is =
@@ -249,7 +249,7 @@ module _ (ask : Frame → Verdict) (x keep : ℕ) where
     where
       at_top : (vd : Verdict) → Down (length fs) (force_list ask x keep fs) → Down (suc (length fs)) (force_top fs vd)
       at_top Nothing d = down_more _ _ d
-      at_top (Cleanup pad) d = down_cons (length fs) _ _ (landed_before (record { serial = x; frame = length fs; pad = pad; selector = pos 0; kind = kind.Cleanup }) (length fs) refl) (omega arith) d
+      at_top (Cleanup pad) d = down_cons (length fs) _ _ (landed_before (record { serial = x; frame = length fs; pad = pad; kind = kind.Cleanup }) (length fs) refl) (omega arith) d
       at_top (Handler pad selector) d = down_more _ _ d
       at_top Terminate d = down_more _ _ d
       at_top (Broken t) d = down_more _ _ d

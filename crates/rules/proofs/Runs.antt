@@ -1,5 +1,5 @@
 -- The promise: every call keeps the invariant, so every run does, and each sentence follows from it.
-use Rattle.std.proofs.Common.{◌≡◌, ℕ, suc, ◌+◌, Bool, true, false, not, ◌&&◌, ◌||◌, eqb, ltb, ◌≢◌, ◌⊎◌, ◌↔◌, List, [], ◌∷◌, ◌++◌, map, length, pos, Some, None, Option, sym, refl, ap, ◌∙◌, subst, inl, inr, arith}
+use Rattle.std.proofs.Common.{◌≡◌, ℕ, suc, ◌+◌, Bool, true, false, not, ◌&&◌, ◌||◌, eqb, ltb, ◌≢◌, ◌⊎◌, ◌↔◌, List, [], ◌∷◌, ◌++◌, map, length, Some, None, Option, sym, refl, ap, ◌∙◌, subst, inl, inr, arith}
 use Rattle.std.proofs.lemmas.Bool.{cond_both, false≢true, both_ways, eqb-true, and_parts}
 use Rattle.personality.specs.declared.verdict.Verdict.{Verdict}
 use Rattle.calls.specs.declared.answer.Answer.{Answer}
@@ -97,7 +97,7 @@ way_ends ask x g (f ∷ fs) =
     (λ _. arrival_ends x g)
     (λ _. given_both (cleanup_pad (ask f)) _ _ EndsLast
     (λ _. way_ends ask x g fs)
-    (λ pad _. ends_after (landing x (length fs) pad (pos 0) kind.Cleanup ∷ []) (way ask x g fs) (refl, tt) (way_ends ask x g fs)))
+    (λ pad _. ends_after (landing x (length fs) pad kind.Cleanup ∷ []) (way ask x g fs) (refl, tt) (way_ends ask x g fs)))
 
 parts_at : (v : Verdicts) (made : List Exception) (m : Option Unwinding) (fs : List Activation) (ih : (us : List Account) → Chain v made fs us → All Part us) (us : List Account)
     → chain_at v made m fs (Chain v made fs) us → All Part us

@@ -1,5 +1,5 @@
 -- raise, rethrow, force and resume keep the invariant.
-use Rattle.std.proofs.Common.{◌≡◌, ℕ, suc, ◌≤◌, Bool, true, false, cond, eqb, ltb, leb, List, [], ◌∷◌, ◌++◌, length, ℤ, pos, Some, None, Ok, Err, Option, Result, sym, refl, ap, ◌∙◌, subst, arith}
+use Rattle.std.proofs.Common.{◌≡◌, ℕ, suc, ◌≤◌, Bool, true, false, cond, eqb, ltb, leb, List, [], ◌∷◌, ◌++◌, length, ℤ, Some, None, Ok, Err, Option, Result, sym, refl, ap, ◌∙◌, subst, arith}
 use lib.ListN.{length-map}
 use Rattle.std.proofs.lemmas.Bool.{cond_both, eqb-true, eq-eqb, ne_eqb, lt-ltb, le-ltb, leb-true, leb-false, lt-leb, and_parts}
 use Rattle.personality.specs.declared.verdict.Verdict.{Verdict}
@@ -44,7 +44,7 @@ record Seen (ask : Frame → Verdict) (x : ℕ) (fs : List Activation) (g : Goal
 
 -- one frame further up, with no handler there
 further : (ask : Frame → Verdict) (x n pad : ℕ) (selector : ℤ) (f : Activation) (fs : List Activation) → f.cleanup ≡ None → Seen ask x fs (goal.Handler n pad selector)
-    → raise_list ask x (bare_frames (f ∷ fs)) ≡ given (cleanup_pad (ask f.frame)) (raise_list ask x (bare_frames fs)) (λ p. landing x (length (bare_frames fs)) p (pos 0) kind.Cleanup ∷ raise_list ask x (bare_frames fs))
+    → raise_list ask x (bare_frames (f ∷ fs)) ≡ given (cleanup_pad (ask f.frame)) (raise_list ask x (bare_frames fs)) (λ p. landing x (length (bare_frames fs)) p kind.Cleanup ∷ raise_list ask x (bare_frames fs))
     → Seen ask x (f ∷ fs) (goal.Handler n pad selector)
 unfolding way
 further ask x n pad selector f fs m w e =
@@ -126,10 +126,10 @@ force_way ask x k (f ∷ fs) = go (leb k (length fs)) refl (ask f) (force_way as
   where
     go : (t : Bool) → leb k (length fs) ≡ t → (vd : Verdict) → force_list ask x k fs ≡ way ask x (goal.Keep k) fs
         → cleanups x (cond t (record { number = length fs; verdict = vd } ∷ above_kept k (asked ask fs)) (above_kept k (asked ask fs))) ++ (Stopped x ∷ [])
-        ≡ cond (ltb (length fs) k) (Stopped x ∷ []) (given (cleanup_pad vd) (way ask x (goal.Keep k) fs) (λ pad. landing x (length fs) pad (pos 0) kind.Cleanup ∷ way ask x (goal.Keep k) fs))
+        ≡ cond (ltb (length fs) k) (Stopped x ∷ []) (given (cleanup_pad vd) (way ask x (goal.Keep k) fs) (λ pad. landing x (length fs) pad kind.Cleanup ∷ way ask x (goal.Keep k) fs))
     go false e vd ih = let l = leb-false k (length fs) e in rw (lt-ltb (length fs) k l, above_kept_none ask k fs (omega arith))
     go true e Nothing ih = let l = leb-true k (length fs) e in rw (le-ltb (length fs) k l) ih
-    go true e (Cleanup p) ih = let l = leb-true k (length fs) e in rw (le-ltb (length fs) k l) (ap (λ r. landing x (length fs) p (pos 0) kind.Cleanup ∷ r) ih)
+    go true e (Cleanup p) ih = let l = leb-true k (length fs) e in rw (le-ltb (length fs) k l) (ap (λ r. landing x (length fs) p kind.Cleanup ∷ r) ih)
     go true e (Handler p s) ih = let l = leb-true k (length fs) e in rw (le-ltb (length fs) k l) ih
     go true e Terminate ih = let l = leb-true k (length fs) e in rw (le-ltb (length fs) k l) ih
     go true e (Broken t) ih = let l = leb-true k (length fs) e in rw (le-ltb (length fs) k l) ih

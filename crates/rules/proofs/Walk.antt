@@ -1,5 +1,5 @@
 -- The walk keeps the invariant: one lemma for raise, rethrow, force and resume.
-use Rattle.std.proofs.Common.{◌≡◌, ℕ, suc, ◌≤◌, Bool, true, false, cond, eqb, ◌≢◌, List, [], ◌∷◌, ◌++◌, length, ℤ, pos, Some, None, Option, sym, refl, ap, ◌∙◌, subst, append_assoc, arith}
+use Rattle.std.proofs.Common.{◌≡◌, ℕ, suc, ◌≤◌, Bool, true, false, cond, eqb, ◌≢◌, List, [], ◌∷◌, ◌++◌, length, ℤ, Some, None, Option, sym, refl, ap, ◌∙◌, subst, append_assoc, arith}
 use lib.ListN.{length-map}
 use Rattle.std.proofs.lemmas.Bool.{eqb-true, eqb-false, eq-eqb, ltb-true, ltb-false, lt-ltb, le-ltb}
 use Rattle.personality.specs.declared.verdict.Verdict.{Verdict}
@@ -181,12 +181,12 @@ module _ (j : Trip) (g : Goal) (fs : List Activation) (hs : List HeldException) 
 -- a cleanup runs in the frame f
 lands_at : (j : Trip) (g : Goal) (f : Activation) (fs : List Activation) (hs : List HeldException) (cs : List Catch) (q : List ℕ) (n pad : ℕ) → Place j g (f ∷ fs) hs cs q n
     → reached g (length fs) ≡ false
-    → j.list ≡ j.said ++ (landing j.e.serial (length fs) pad (pos 0) kind.Cleanup ∷ way (ask j g) j.e.serial g (bare_frames fs))
+    → j.list ≡ j.said ++ (landing j.e.serial (length fs) pad kind.Cleanup ∷ way (ask j g) j.e.serial g (bare_frames fs))
     → f.cleanup ≡ None → Clear g fs
     → Goes j g (clean_up (record { exception = j.e; goal = g }) f fs pad (mk (f ∷ fs) hs cs q n))
 lands_at j g f fs hs cs q n pad at nr way' m cl =
     let x = j.e.serial in
-    let a : Answer = landing x (length fs) pad (pos 0) kind.Cleanup in
+    let a : Answer = landing x (length fs) pad kind.Cleanup in
     let u : Unwinding = record { exception = j.e; goal = g } in
     let f' : Activation = record { frame = record { unit = f.frame.unit; place = pad }; cleanup = Some u } in
     let ch : Chain j.v j.made fs j.rest = subst (λ c. chain_at j.v j.made c fs (Chain j.v j.made fs) j.rest) m at.chain in
@@ -236,7 +236,7 @@ handles : (j : Trip) (frame pad : ℕ) (selector : ℤ) (f : Activation) (fs : L
     → Goes j (goal.Handler frame pad selector) (arrive j.e (goal.Handler frame pad selector) (mk (f ∷ fs) hs cs q n))
 handles j frame pad selector f fs hs cs q n at eh way' =
     let x = j.e.serial in
-    let a : Answer = landing x frame pad selector kind.Handler in
+    let a : Answer = landing x frame pad (kind.Handler selector) in
     let lm = length-map fs (λ (f : Activation). f.frame) in
     record {
       accepted = refl;
@@ -391,7 +391,7 @@ walk_at : (j : Trip) (g : Goal) (f : Activation) (fs : List Activation) (hs : Li
     → Place j g (f ∷ fs) hs cs q n
     → reached g (length fs) ≡ t
     → when_not t ((f.cleanup ≡ None) × Clear g fs)
-    → j.list ≡ j.said ++ cond t (arrival j.e.serial g ∷ []) (given m (way (ask j g) j.e.serial g (bare_frames fs)) (λ pad. landing j.e.serial (length fs) pad (pos 0) kind.Cleanup ∷ way (ask j g) j.e.serial g (bare_frames fs)))
+    → j.list ≡ j.said ++ cond t (arrival j.e.serial g ∷ []) (given m (way (ask j g) j.e.serial g (bare_frames fs)) (λ pad. landing j.e.serial (length fs) pad kind.Cleanup ∷ way (ask j g) j.e.serial g (bare_frames fs)))
     → ((hs : List HeldException) (cs : List Catch) (q : List ℕ) → Place j g fs hs cs q n → Goes j g (walk (ask j g) (record { exception = j.e; goal = g }) fs (mk fs hs cs q n)))
     → Goes j g (cond t (arrive j.e g (mk (f ∷ fs) hs cs q n))
     (given m (walk (ask j g) (record { exception = j.e; goal = g }) fs (gone j.e.serial fs (mk (f ∷ fs) hs cs q n))) (λ pad. clean_up (record { exception = j.e; goal = g }) f fs pad (mk (f ∷ fs) hs cs q n))))

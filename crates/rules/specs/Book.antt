@@ -186,7 +186,7 @@ caught_in x n b = set_catches (record { serial = x; frame = n } ∷ b.catches) b
 -- a landing of the unwinding of x: at a cleanup it goes on to hold x; at its handler it ends, and a catch holds x
 abbrev pub at_landing : ℕ → Landing → Kind → Book → Book
 at_landing x l kind.Cleanup b = settled (uncaught (suc l.frame) b) (landed l b)
-at_landing x l kind.Handler b = settled (uncaught (suc l.frame) b) (caught_in x l.frame (finished x (landed l b)))
+at_landing x l (kind.Handler selector) b = settled (uncaught (suc l.frame) b) (caught_in x l.frame (finished x (landed l b)))
 
 -- stopped: the unwinding of x ends with the kept frames left, and the raiser holds x
 abbrev pub at_stop : ℕ → Book → Book

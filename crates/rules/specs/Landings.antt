@@ -1,5 +1,5 @@
 -- The landing list of an unwinding: what it has to answer, by the verdicts on the frames just before it began.
-use Rattle.std.specs.Prelude.{◌≡◌, ℕ, ◌<◌, ◌≤◌, Bool, true, false, cond, ◌⊎◌, ◌↔◌, List, [], ◌∷◌, ◌++◌, length, take, ℤ, pos, nat_le}
+use Rattle.std.specs.Prelude.{◌≡◌, ℕ, ◌<◌, ◌≤◌, Bool, true, false, cond, ◌⊎◌, ◌↔◌, List, [], ◌∷◌, ◌++◌, length, take, ℤ, nat_le}
 use Rattle.personality.specs.declared.verdict.Verdict.{Verdict}
 use Rattle.personality.specs.declared.verdict.Verdict.TheVariants.{Nothing, Cleanup, Handler, Terminate, Broken}
 use Rattle.calls.specs.declared.answer.Answer.{Answer}
@@ -21,7 +21,7 @@ asked ask (f ∷ fs) = record { number = length fs; verdict = ask f } ∷ asked 
 -- the landing of the exception x where the verdict is Cleanup; none elsewhere
 abbrev pub cleanup_at : ℕ → ℕ → Verdict → List Answer
 cleanup_at x n Nothing = []
-cleanup_at x n (Cleanup pad) = Landed (record { serial = x; frame = n; pad = pad; selector = pos 0; kind = kind.Cleanup }) ∷ []
+cleanup_at x n (Cleanup pad) = Landed (record { serial = x; frame = n; pad = pad; kind = kind.Cleanup }) ∷ []
 cleanup_at x n (Handler pad selector) = []
 cleanup_at x n Terminate = []
 cleanup_at x n (Broken fault) = []
@@ -30,7 +30,7 @@ cleanup_at x n (Broken fault) = []
 abbrev pub handler_at : ℕ → ℕ → Verdict → List Answer
 handler_at x n Nothing = []
 handler_at x n (Cleanup pad) = []
-handler_at x n (Handler pad selector) = Landed (record { serial = x; frame = n; pad = pad; selector = selector; kind = kind.Handler }) ∷ []
+handler_at x n (Handler pad selector) = Landed (record { serial = x; frame = n; pad = pad; kind = kind.Handler selector }) ∷ []
 handler_at x n Terminate = []
 handler_at x n (Broken fault) = []
 
@@ -87,7 +87,7 @@ pub record Cleans (ask : Frame → Verdict) (x : ℕ) (fs : List Frame) (a : Ans
   pub pad : ℕ
   pub there : FrameAt n frame fs
   pub verdict : ask frame ≡ Cleanup pad
-  pub is : a ≡ Landed (record { serial = x; frame = n; pad = pad; selector = pos 0; kind = kind.Cleanup })
+  pub is : a ≡ Landed (record { serial = x; frame = n; pad = pad; kind = kind.Cleanup })
 
 -- a is the landing at a Handler
 pub record Handles (ask : Frame → Verdict) (x : ℕ) (fs : List Frame) (a : Answer) : Type 0 where
@@ -97,7 +97,7 @@ pub record Handles (ask : Frame → Verdict) (x : ℕ) (fs : List Frame) (a : An
   pub selector : ℤ
   pub there : FrameAt n frame fs
   pub verdict : ask frame ≡ Handler pad selector
-  pub is : a ≡ Landed (record { serial = x; frame = n; pad = pad; selector = selector; kind = kind.Handler })
+  pub is : a ≡ Landed (record { serial = x; frame = n; pad = pad; kind = kind.Handler selector })
 
 -- each Cleanup above the first Handler, and that Handler
 abbrev pub OfRaise : (Frame → Verdict) → ℕ → List Frame → Answer → Type 0

@@ -19,7 +19,7 @@ use Rattle.rules.specs.State.{State, start, raisers, unwinding}
 
 abbrev pub ends_landing : Kind → Bool
 ends_landing kind.Cleanup = false
-ends_landing kind.Handler = true
+ends_landing (kind.Handler selector) = true
 
 -- whether an unwinding ends with an answer: its handler landing, or stopped
 abbrev pub ends : Answer → Bool

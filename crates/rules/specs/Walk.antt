@@ -1,5 +1,5 @@
 -- The second phase of an unwinding: from the top, frame by frame, to a landing.
-use Rattle.std.specs.Prelude.{ℕ, Bool, true, false, cond, List, [], ◌∷◌, length, ℤ, pos, Some, None, Option, ◌==◌, nat_lt}
+use Rattle.std.specs.Prelude.{ℕ, Bool, true, false, cond, List, [], ◌∷◌, length, Some, None, Option, ◌==◌, nat_lt}
 use Rattle.personality.specs.declared.verdict.Verdict.{Verdict}
 use Rattle.personality.specs.declared.verdict.Verdict.TheVariants.{Nothing, Cleanup, Handler, Terminate, Broken}
 use Rattle.calls.specs.declared.answer.Answer.{Answer}
@@ -53,14 +53,14 @@ forced (goal.Handler frame pad selector) = false
 forced (goal.Keep k) = true
 
 -- the exception x lands in the frame numbered n
-abbrev pub landing : ℕ → ℕ → ℕ → ℤ → Kind → Answer
-landing x n pad selector k = Landed (record { serial = x; frame = n; pad = pad; selector = selector; kind = k })
+abbrev pub landing : ℕ → ℕ → ℕ → Kind → Answer
+landing x n pad k = Landed (record { serial = x; frame = n; pad = pad; kind = k })
 
 -- a cleanup of the unwinding u runs in the top frame f, over the frames fs
 abbrev pub clean_up : Unwinding → Activation → List Activation → ℕ → State → Outcome
 clean_up u f fs pad s =
     record {
-      answer = landing u.exception.serial (length fs) pad (pos 0) kind.Cleanup;
+      answer = landing u.exception.serial (length fs) pad kind.Cleanup;
       after = with_frames (record { frame = record { unit = f.frame.unit; place = pad }; cleanup = Some u } ∷ fs) s;
     }
 
@@ -68,7 +68,7 @@ clean_up u f fs pad s =
 abbrev pub arrive : Exception → Goal → State → Outcome
 arrive e (goal.Handler frame pad selector) s =
     record {
-      answer = landing e.serial frame pad selector kind.Handler;
+      answer = landing e.serial frame pad (kind.Handler selector);
       after = with_catches (record { exception = e; frame = frame; begun = false } ∷ s.catches) (with_frames (at_place pad s.frames) s);
     }
 arrive e (goal.Keep k) s = record { answer = Stopped e.serial; after = with_held (own true e.serial s.held) s }

@@ -28,10 +28,10 @@ make_one = Make 1 1
 
 -- landings of the exception x in the frame numbered n
 abbrev pub cleans : ℕ → ℕ → ℕ → Answer
-cleans x n pad = landing x n pad (pos 0) kind.Cleanup
+cleans x n pad = landing x n pad kind.Cleanup
 
 abbrev pub handles : ℕ → ℕ → Answer
-handles x n = landing x n 100 (pos 1) kind.Handler
+handles x n = landing x n 100 (kind.Handler (pos 1))
 
 -- the answers to calls on a fresh state, set up with 0
 abbrev pub answered_by : List Call → List Answer
