@@ -10,15 +10,19 @@ use std::{fmt, io};
 #[derive(Clone, Copy, PartialEq, Eq, Debug)]
 pub struct Asked(pub Question);
 
+#[tactic(auto, using(crate::proofs::Texts::class_padded))]
 impl fmt::Display for Asked {
     ghost output = { λ a. Some (asked_text a.0) };
 
     fn fmt<W: fmt::Write>(&self, f: &mut fmt::Formatter<W>) -> fmt::Result {
-        let unit = self.0.unit;
-        let place = self.0.place;
-        let class = self.0.class;
-        let thrown = self.0.thrown;
-        let manner = if self.0.forced { "forced" } else { "plain" };
+        let Question {
+            unit,
+            place,
+            class,
+            thrown,
+            forced,
+        } = self.0;
+        let manner = if forced { "forced" } else { "plain" };
         write!(f, "ask {unit} {place} {class:016x} {thrown} {manner}")
     }
 }

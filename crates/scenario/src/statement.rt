@@ -83,6 +83,7 @@ fn serials<'t>(words: &[&'t str]) -> Result<u32, Wrong<'t>>
 }
 
 // The statement of a line, if it has words.
+#[tactic(auto, using(std::proofs::lemmas::List::take_rest))]
 pub fn read_statement<'t>(heap: Global, words: &[&'t str]) -> Result<Option<Statement>, Wrong<'t>>
     ensures { IfOk result (λ s. SaysLine s words.now) }
 {

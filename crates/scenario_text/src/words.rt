@@ -8,7 +8,8 @@ use std::alloc::{AllocError, Global};
 fn code(line: &str) -> &str
     ensures { Uncommented line.now result.now }
 {
-    line.split_once('#').map_or(line, |(before, _comment)| before)
+    line.split_once('#')
+        .map_or(line, |(before, _comment)| before)
 }
 
 pub fn words(heap: Global, line: &str) -> Result<Vec<&str>, AllocError>
