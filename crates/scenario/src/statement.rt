@@ -19,6 +19,7 @@ pub enum Statement {
     Ask(Question),
 }
 
+// As a loop: over `try_collect` the proof of each byte did not close.
 fn bytes<'t>(heap: Global, words: &[&'t str]) -> Result<Vec<u8>, Wrong<'t>>
     ensures { IfOk result (λ v. Bytes v.items words.now) }
 {

@@ -18,6 +18,20 @@ pub struct Read<'w, 't, T> {
     pub rest: &'w [&'t str],
 }
 
+impl<'w, 't, T> Read<'w, 't, T> {
+    // The same words are left of what is made of what was read.
+    fn map<U, F: FnOnce(T) -> U>(self, make: F) -> Read<'w, 't, U>
+        requires { F.pre make self.found }
+        ensures made { F.post make self.entry.found result.found }
+        ensures left { result.rest ≡ self.entry.rest }
+    {
+        Read {
+            found: make(self.found),
+            rest: self.rest,
+        }
+    }
+}
+
 // The words after a bracket.
 fn bracket<'w, 't>(words: &'w [&'t str], mark: &'t str) -> Result<&'w [&'t str], Wrong<'t>>
     ensures { IfOk result (λ rest. Begins words.now mark.now × (rest.now ≡ drop 1 words.now)) }
@@ -55,13 +69,7 @@ fn language<'w, 't>(
     ensures { IfOk result (λ x. SaysLanguage x.found words.now x.rest.now) }
 {
     match words {
-        ["tree", rest @ ..] => {
-            let read = parents(heap, rest)?;
-            Ok(Read {
-                found: LanguagePlan::Tree(read.found),
-                rest: read.rest,
-            })
-        }
+        ["tree", rest @ ..] => Ok(parents(heap, rest)?.map(LanguagePlan::Tree)),
         ["exact", rest @ ..] => Ok(Read {
             found: LanguagePlan::Exact,
             rest,
@@ -202,12 +210,6 @@ pub fn read_plan<'w, 't>(
             let below = enclosed(heap, rest)?;
             hosted(heap, below)
         }
-        _ => {
-            let read = leaf(heap, words)?;
-            Ok(Read {
-                found: Composed::Leaf(read.found),
-                rest: read.rest,
-            })
-        }
+        _ => Ok(leaf(heap, words)?.map(Composed::Leaf)),
     }
 }
