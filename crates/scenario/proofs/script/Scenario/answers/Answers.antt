@@ -1,5 +1,5 @@
 use Rattle.std.proofs.Common.{vec_items, rules}
-use Rattle.scenario_plan.proofs.Said.{made_so}
+use Rattle.std.proofs.lemmas.Result.{IfOk-weaker}
 use Rattle.scenario.proofs.Answered.{same_asked, answered}
 use Rattle.scenario.proofs.script.Scenario.answers.Goals as goal
 
@@ -8,7 +8,7 @@ returns-in_ok-personality-in-Some c =
     let x = c.in_ok-personality-in-Some.personality in
     let image = vec_items c.args.self.now.image in
     let questions = vec_items c.args.self.now.questions in
-    made_so c.answer_all.result
+    IfOk-weaker c.answer_all.result _ _
     (λ v a.
     answered c.args.self.now.personality c.in-Some.plan x image questions (vec_items v) c.in-Some.is c.in_ok-personality-in-Some.ensures
     (same_asked x image _ questions _ (vec_items v) a (search rules) (search rules)))
