@@ -43,8 +43,8 @@ mod tests {
 
     // Whether a format's number takes so many of the bytes and has the value.
     fn reads_in(code: u8, case: Encoded) -> bool {
-        decode_format(code)
-            .is_some_and(|format| read_number(case.bytes, 0, format) == Ok(case.number()))
+        decode_format(code).is_some_and(|format| read_number(case.bytes, 0, format)
+            == Ok(case.number()))
     }
 
     // The unsigned examples of the DWARF standard.

@@ -1,6 +1,6 @@
 -- A question as a statement, counts of questions by verdict, and the line that prints them.
-use Rattle.std.specs.Prelude.{ℕ, ◌+◌, ◌-◌, ◌^◌, min, Bool, true, false, List, [], ◌++◌, codes, decimal}
-use Rattle.std.specs.Fmt.{digits, format_spec, padded_integral}
+use Rattle.std.specs.Prelude.{ℕ, ◌+◌, ◌-◌, min, Bool, true, false, List, ◌++◌, replicate, length, codes, decimal}
+use Rattle.std.specs.Fmt.{digits}
 use Rattle.personality.specs.declared.verdict.Question.{Question}
 use Rattle.personality.specs.declared.verdict.Verdict.{Verdict}
 use Rattle.personality.specs.declared.verdict.Verdict.TheVariants.{Nothing, Cleanup, Handler, Terminate, Broken}
@@ -8,7 +8,7 @@ use Rattle.scenario.specs.declared.report.Tally.{Tally}
 
 -- sixteen lower-case hexadecimal digits
 abbrev pub class_text : ℕ → List ℕ
-class_text class = padded_integral (format_spec 32 0 4 16 (2 ^ 64 - 1)) false [] (digits 16 false class)
+class_text class = let d = digits 16 false class in replicate (16 - length d) 48 ++ d
 
 abbrev pub manner : Bool → List ℕ
 manner true = codes "forced"

@@ -1,5 +1,5 @@
 // Scenarios: the statements of their lines, the questions that they ask, the answers, and the report.
-#![tactic(auto, using(std::proofs::lemmas::List::take_rest))]
+#![tactic(auto)]
 
 pub mod answers;
 pub mod report;

@@ -1,6 +1,6 @@
 // What a report prints of questions: each in canonical form, and their number by verdict.
 ghost use Rattle.std.specs.Prelude.{◌≡◌, Some};
-ghost use Rattle.scenario.specs.Reports.{asked_text, no_questions, noted, tally_text};
+ghost use Rattle.scenario.specs.Reports.{asked_text, more, no_questions, noted, tally_text};
 
 use crate::script::Scenario;
 use personality::verdict::{Question, Verdict};
@@ -10,17 +10,27 @@ use std::{fmt, io};
 #[derive(Clone, Copy, PartialEq, Eq, Debug)]
 pub struct Asked(pub Question);
 
+#[tactic(auto, using(crate::proofs::Texts::class_padded))]
 impl fmt::Display for Asked {
     ghost output = { λ a. Some (asked_text a.0) };
 
     fn fmt<W: fmt::Write>(&self, f: &mut fmt::Formatter<W>) -> fmt::Result {
-        let unit = self.0.unit;
-        let place = self.0.place;
-        let class = self.0.class;
-        let thrown = self.0.thrown;
-        let manner = if self.0.forced { "forced" } else { "plain" };
+        let Question {
+            unit,
+            place,
+            class,
+            thrown,
+            forced,
+        } = self.0;
+        let manner = if forced { "forced" } else { "plain" };
         write!(f, "ask {unit} {place} {class:016x} {thrown} {manner}")
     }
+}
+
+fn count(counter: &mut u64)
+    ensures { counter.new ≡ more counter.old }
+{
+    *counter = counter.saturating_add(1);
 }
 
 // How many questions were asked, and how many got each verdict. No list is so long that a counter would stop.
@@ -45,13 +55,13 @@ impl Tally {
     pub fn note(&mut self, verdict: Verdict)
         ensures { self.new ≡ noted verdict self.old }
     {
-        self.questions = self.questions.saturating_add(1);
+        count(&mut self.questions);
         match verdict {
-            Verdict::Nothing => self.nothing = self.nothing.saturating_add(1),
-            Verdict::Cleanup { .. } => self.cleanup = self.cleanup.saturating_add(1),
-            Verdict::Handler { .. } => self.handler = self.handler.saturating_add(1),
-            Verdict::Terminate => self.terminate = self.terminate.saturating_add(1),
-            Verdict::Broken(_) => self.broken = self.broken.saturating_add(1),
+            Verdict::Nothing => count(&mut self.nothing),
+            Verdict::Cleanup { .. } => count(&mut self.cleanup),
+            Verdict::Handler { .. } => count(&mut self.handler),
+            Verdict::Terminate => count(&mut self.terminate),
+            Verdict::Broken(_) => count(&mut self.broken),
         }
     }
 }

@@ -19,6 +19,7 @@ pub enum Statement {
     Ask(Question),
 }
 
+// As a loop: over `try_collect` the proof of each byte did not close.
 fn bytes<'t>(heap: Global, words: &[&'t str]) -> Result<Vec<u8>, Wrong<'t>>
     ensures { IfOk result (λ v. Bytes v.items words.now) }
 {
@@ -83,6 +84,7 @@ fn serials<'t>(words: &[&'t str]) -> Result<u32, Wrong<'t>>
 }
 
 // The statement of a line, if it has words.
+#[tactic(auto, using(std::proofs::lemmas::List::take_rest))]
 pub fn read_statement<'t>(heap: Global, words: &[&'t str]) -> Result<Option<Statement>, Wrong<'t>>
     ensures { IfOk result (λ s. SaysLine s words.now) }
 {

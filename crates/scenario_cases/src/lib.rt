@@ -6,6 +6,7 @@ mod tests {
     use scenario::report::Asked;
     use scenario::script::Scenario;
     use std::alloc::{AllocError, Global};
+    use std::fmt::Write;
     use std::process::Abort;
     use std::test::Fail;
 
@@ -14,8 +15,7 @@ mod tests {
         let verdicts = scenario.answers(heap)?;
         for (question, verdict) in scenario.questions.iter().zip(verdicts.iter()) {
             let asked = Asked(*question);
-            let line = format!(in heap; "{asked}: {verdict}; ")?;
-            all.push_str(line.as_str())?;
+            write!(all, "{asked}: {verdict}; ")?;
         }
         Ok(all)
     }

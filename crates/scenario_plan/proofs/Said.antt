@@ -1,5 +1,5 @@
 -- Layers are said by their parts, and what is said leaves no more words than there were.
-use Rattle.std.proofs.Common.{◌≡◌, ℕ, ◌<◌, ◌≤◌, List, [], ◌∷◌, length, drop, IfOk, Ok, Err, vec_items, codes, Result, sym, ap, subst, arith, length-drop}
+use Rattle.std.proofs.Common.{◌≡◌, ℕ, ◌<◌, ◌≤◌, List, [], ◌∷◌, length, drop, vec_items, codes, sym, ap, subst, arith, length-drop}
 use Rattle.composed.specs.Tree.{PairOf}
 use Rattle.composed.specs.declared.leaf.AnyLanguage.{AnyLanguage}
 use Rattle.composed.specs.declared.leaf.AnyLanguage.TheVariants as language
@@ -9,10 +9,6 @@ use Rattle.composed.specs.declared.tree.Composed.{Composed}
 use Rattle.composed.specs.declared.tree.Composed.TheVariants.{Leaf, Pair', Guest'}
 use Rattle.scenario_text.specs.Words.{Words, word, Begins}
 use Rattle.scenario_plan.specs.Says.{Lists, SaysLanguage, SaysLeaf, Enclosed, Says}
-
-pub made_so : {X Y : Type 0} {P Q : X → Type 0} (r : Result X Y) → ((x : X) → P x → Q x) → IfOk r P → IfOk r Q
-made_so (Ok x) f h = f x h
-made_so (Err y) f h = tt
 
 pub says_pair : (x a b : Composed composed.Leaf) (ws next mid rest : Words) → PairOf x a b → Begins ws (codes "pair") → next ≡ drop 1 ws → Enclosed (Says a) next mid → Enclosed (Says b) mid rest → Says x ws rest
 says_pair (Leaf p) a b ws next mid rest made name e h k = absurd made

@@ -21,14 +21,14 @@ pub struct Read<'w, 't, T> {
 }
 
 impl<'w, 't, T> Read<'w, 't, T> {
-    // What f makes of what was read, before the same words.
-    fn map<U, F: FnOnce(T) -> U>(self, f: F) -> Read<'w, 't, U>
-        requires { F.pre f self.found }
-        ensures found { F.post f self.entry.found result.found }
-        ensures rest { result.rest.now ≡ self.entry.rest.now }
+    // The same words are left of what is made of what was read.
+    fn map<U, F: FnOnce(T) -> U>(self, make: F) -> Read<'w, 't, U>
+        requires { F.pre make self.found }
+        ensures made { F.post make self.entry.found result.found }
+        ensures left { result.rest ≡ self.entry.rest }
     {
         Read {
-            found: f(self.found),
+            found: make(self.found),
             rest: self.rest,
         }
     }

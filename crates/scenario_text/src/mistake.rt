@@ -1,4 +1,7 @@
 // What can be wrong with a scenario, in words for whoever wrote it.
+ghost use Rattle.std.specs.Prelude.{Some};
+ghost use Rattle.scenario_text.specs.Messages.{form_text, wrong_text, mistake_text};
+
 use std::alloc::{AllocError, AllocFailed};
 use std::fmt;
 
@@ -36,20 +39,23 @@ pub enum Form {
 }
 
 impl fmt::Display for Form {
+    ghost output = { λ x. Some (form_text x) };
+
     fn fmt<W: fmt::Write>(&self, f: &mut fmt::Formatter<W>) -> fmt::Result {
-        let form = match self {
+        f.write_str(match self {
             Form::Ask => "ask takes UNIT PLACE CLASS TYPE and plain or forced",
             Form::Serials => "serials takes one number",
             Form::Personality => "a personality is missing: release, lsda, sjlj, pair or guest",
             Form::Release => "release takes LO HI PAD",
             Form::Table => "lsda and sjlj take START LENGTH FUNCTION and a language",
             Form::Language => "a language is missing: tree or exact",
-        };
-        write!(f, "{form}")
+        })
     }
 }
 
 impl<'a> fmt::Display for Wrong<'a> {
+    ghost output = { λ x. Some (wrong_text x) };
+
     fn fmt<W: fmt::Write>(&self, f: &mut fmt::Formatter<W>) -> fmt::Result {
         match *self {
             Wrong::NotAStatement(word) => write!(f, "'{word}' is not a statement"),
@@ -101,9 +107,10 @@ pub struct Mistake<'a> {
 }
 
 impl<'a> fmt::Display for Mistake<'a> {
+    ghost output = { λ x. Some (mistake_text x) };
+
     fn fmt<W: fmt::Write>(&self, f: &mut fmt::Formatter<W>) -> fmt::Result {
-        let line = self.line;
-        let wrong = self.wrong;
+        let Mistake { line, wrong } = *self;
         write!(f, "line {line}: {wrong}")
     }
 }

@@ -16,7 +16,7 @@ fn number(word: &str, radix: u32) -> Result<u64, Misread>
     requires { (2 ≤ radix) × (radix ≤ 36) }
     ensures { Written radix (2 ^ 64) word.now result }
 {
-    if let [b'+', ..] = word.as_bytes() {
+    if word.starts_with('+') {
         return Err(Misread::NotDigits);
     }
     match u64::from_str_radix(word, radix) {

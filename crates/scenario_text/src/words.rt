@@ -8,15 +8,19 @@ use std::alloc::{AllocError, Global};
 fn code(line: &str) -> &str
     ensures { Uncommented line.now result.now }
 {
-    line.split_once('#').map_or(line, |(before, _comment)| before)
+    line.split_once('#')
+        .map_or(line, |(before, _comment)| before)
 }
 
+fn split(heap: Global, text: &str) -> Result<Vec<&str>, AllocError>
+    ensures { IfOk result (λ v. WordsOf text.now v.items) }
+{
+    text.split_whitespace().collect(heap)
+}
+
+// The words of a line, up to a comment.
 pub fn words(heap: Global, line: &str) -> Result<Vec<&str>, AllocError>
     ensures { IfOk result (λ v. (text : List ℕ) × Uncommented line.now text × WordsOf text v.items) }
 {
-    let mut found = Vec::new(heap);
-    for word in code(line).split_whitespace() {
-        found.push(word)?;
-    }
-    Ok(found)
+    split(heap, code(line))
 }
