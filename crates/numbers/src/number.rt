@@ -164,21 +164,14 @@ fn in_range(value: i64, signed: bool) -> bool
     }
 }
 
-fn leb128(bytes: &[u8], at: usize, signed: bool) -> Result<Number, Fault>
-    ensures is { result ≡ leb128_at bytes.now signed at }
-    ensures within { IfOk result (Within (length bytes.now) signed) }
-{
-    let digits = read_digits(bytes, at)?;
-    digits.judge(at, signed)
-}
-
 // The LEB128 number at an offset.
 pub fn read_leb128(bytes: &[u8], at: usize, signed: bool) -> Result<Number, Fault>
     ensures is { result ≡ leb128_at bytes.now signed at }
     ensures within { IfOk result (Within (length bytes.now) signed) }
     ensures means { Means bytes.now signed at result }
 {
-    leb128(bytes, at, signed)
+    let digits = read_digits(bytes, at)?;
+    digits.judge(at, signed)
 }
 
 // The unsigned LEB128 number at an offset.
@@ -186,7 +179,7 @@ pub fn read_unsigned(bytes: &[u8], at: usize) -> Result<Unsigned, Fault>
     ensures is { result ≡ unsigned_at bytes.now at }
     ensures within { IfOk result (λ n. n.next ≤ length bytes.now) }
 {
-    let number = leb128(bytes, at, false)?;
+    let number = read_leb128(bytes, at, false)?;
     Ok(Unsigned {
         value: number.value as u32,
         next: number.next,
