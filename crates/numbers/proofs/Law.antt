@@ -3,7 +3,7 @@ use Rattle.std.proofs.Common.{◌≡◌, ℕ, zero, suc, ◌+◌, ◌-◌, ◌*�
 use native.Mathlib.Nat.{pow-succ'}
 use Rattle.std.proofs.lemmas.Bool.{cases_lt}
 use Rattle.personality.specs.declared.fault.Fault.{Fault}
-use Rattle.numbers.specs.declared.number.Digits.{Digits}
+use Rattle.numbers.specs.Digits.{Digits}
 use Rattle.numbers.specs.declared.format.Format.{Format}
 use Rattle.numbers.specs.declared.format.Size.{Size}
 use Rattle.numbers.specs.declared.format.Size.TheVariants.{Leb128, Fixed}
@@ -101,7 +101,7 @@ module _ (bs : List ℕ) where
     shape (suc k) at d e = go (cases_lt at (length bs)) (cases_lt (get_or bs at 0) 128) (digits_at bs first k (at + 1)) refl (shape k (at + 1))
       where
         go : (at < length bs) ⊎ (length bs ≤ at) → (get_or bs at 0 < 128) ⊎ (128 ≤ get_or bs at 0) → (r : Result Digits Fault) → digits_at bs first k (at + 1) ≡ r → ((c : Digits) → digits_at bs first k (at + 1) ≡ Ok c → (n : ℕ) × (n ≤ k) × Shaped bs (at + 1) n) → (n : ℕ) × (n ≤ suc k) × Shaped bs at n
-        go (inr h) q r f ih = let c = digits_cut bs first (suc k) k at refl h in let z : ◌≡◌ {A = ℕ} 0 1 = cc in absurd (omega arith)
+        go (inr h) q r f ih = let c = digits_cut bs first (suc k) at (omega arith) h in let z : ◌≡◌ {A = ℕ} 0 1 = cc in absurd (omega arith)
         go (inl h) (inl l) r f ih = (1, omega arith, shaped_one at h l)
         go (inl h) (inr m) (Err x) f ih = let c = rw f at (digits_more bs first (suc k) k at refl h m) in let z : ◌≡◌ {A = ℕ} 0 1 = cc in absurd (omega arith)
         go (inl h) (inr m) (Ok c) f ih = let w = ih c f in (suc w.0, omega arith, shaped_more at w.0 m w.2)
