@@ -10,4 +10,4 @@ pub returns : goal.returns
 unfolding format_of_code
 returns c =
     let found = c.in_ok-get.ensures.lookup.3 in
-    listed _ c.args.code _ _ (found.1 None) refl c.from.ensures found.0
+    listed _ c.args.code _ _ (found.1 None) refl (omega arith) found.0
