@@ -133,6 +133,7 @@ impl Digits {
     }
 }
 
+#[tactic(auto, using(crate::proofs::Digit::digits_cut, crate::proofs::Digit::digits_none))]
 fn read_digits(bytes: &[u8], at: usize) -> Result<Digits, Fault>
     ensures is { result ≡ digits_at bytes.now at limit at }
     ensures within { IfOk result (λ d. d.next ≤ length bytes.now) }
@@ -148,12 +149,10 @@ fn read_digits(bytes: &[u8], at: usize) -> Result<Digits, Fault>
             return Ok(digits);
         }
     }
-    let cause = if rest.len() < LIMIT {
-        Cause::CutShort
-    } else {
-        Cause::TooLarge
-    };
-    Err(Fault::at(cause, at))
+    if rest.len() < LIMIT {
+        return Err(Fault::at(Cause::CutShort, at));
+    }
+    Err(Fault::at(Cause::TooLarge, at))
 }
 
 fn read_bytes(bytes: &[u8], at: usize, width: Width) -> Result<Digits, Fault>

@@ -1,12 +1,7 @@
 use Rattle.std.proofs.Common.{◌-◌, Ok, Err, sym, ap, ◌∙◌, length-take, arith}
 use Rattle.numbers.specs.Numbers.{limit}
-use Rattle.numbers.specs.Reading.{broken}
-use Rattle.numbers.proofs.Digit.{digits_cut, digits_none, under, under_last, under_more, weight_more, with_sign}
+use Rattle.numbers.proofs.Digit.{digits_cut, under, under_last, under_more, weight_more, with_sign}
 use Rattle.numbers.proofs.number.read_digits.Goals as goal
-use Rattle.numbers.proofs.number.read_digits.Goals.{then-rest-lt-LIMIT, else-rest-lt-LIMIT}
-
-pub returns-in_default-clause-is : goal.returns-in_default-clause-is
-returns-in_default-clause-is c = ap Err c.at.ensures ∙ sym (digits_cut c.args.bytes.now c.args.at limit c.args.at (omega arith) (omega (arith, c.in_default.ensures.lookup)))
 
 pub returns-then-byte-lt128-clause-is : goal.returns-then-byte-lt128-clause-is
 returns-then-byte-lt128-clause-is c =
@@ -24,17 +19,9 @@ loop-byte-preserved c =
           ∙ c.loop-byte.invariant.whole;
     })
 
-pub returns-clause-is : goal.returns-clause-is
-returns-clause-is c =
+pub returns-then-rest-lt-LIMIT-clause-is : goal.returns-then-rest-lt-LIMIT-clause-is
+returns-then-rest-lt-LIMIT-clause-is c =
     let len = length-take c.min.result c.in-Some.rest.now in
-    let left = limit - c.loop-byte.byte-index in
-    ap Err c.at-2.ensures
-    ∙ elim c.if-rest-lt-LIMIT.branch [
-      | then-rest-lt-LIMIT w ↦
-          ap (λ cause. broken cause c.args.at) w.cause-is
-          ∙ ap (under c.loop-byte.digits) (sym (digits_cut c.args.bytes.now c.args.at left c.loop-byte.digits.next (omega arith) (omega (arith, c.in-Some.ensures.lookup))))
-      | else-rest-lt-LIMIT w ↦
-          ap (λ cause. broken cause c.args.at) w.cause-is
-          ∙ ap (under c.loop-byte.digits) (sym (digits_none c.args.bytes.now c.args.at left c.loop-byte.digits.next (omega arith)))
-    ]
+    ap Err c.at-then-rest-lt-LIMIT.ensures
+    ∙ ap (under c.loop-byte.digits) (sym (digits_cut c.args.bytes.now c.args.at (limit - c.loop-byte.byte-index) c.loop-byte.digits.next (omega arith) (omega (arith, c.in-Some.ensures.lookup))))
     ∙ c.loop-byte.invariant.whole
