@@ -14,12 +14,7 @@ abbrev pub under : Digits → Result Digits Fault → Result Digits Fault
 under low r = then r (λ d. Ok (record { sum = low.sum + low.weight * d.sum; weight = low.weight * d.weight; negative = d.negative; next = d.next }))
 
 under_above : (low : Digits) (b : ℕ) (r : Result Digits Fault) → under low (then r (λ d. Ok (above b d))) ≡ under (with_digit b 128 low) r
-under_above low b (Ok d) =
-    let s = low.sum in
-    let w = low.weight in
-    let e : s + w * (b + 128 * d.sum) ≡ s + w * b + w * 128 * d.sum = omega (arith, mul-add w b (128 * d.sum), mul_assoc w 128 d.sum) in
-    let f : w * (128 * d.weight) ≡ w * 128 * d.weight = sym (mul_assoc w 128 d.weight) in
-    cc
+under_above low b (Ok d) = grind (arith, mul-add low.weight b (128 * d.sum), mul_assoc low.weight 128 d.sum, mul_assoc low.weight 128 d.weight)
 under_above low b (Err e) = refl
 
 module _ (bs : List ℕ) (first : ℕ) where
@@ -53,10 +48,7 @@ module _ (bs rest : List ℕ) (first n i digit : ℕ) (low : Digits) (cut : rest
   before = (grind (arith, common_steps), grind (arith, common_steps))
 
   pub under_last : (negative : Bool) → negative ≡ leb 64 (get_or (take n rest) i 0) → get_or (take n rest) i 0 < 128 → Ok (with_sign negative (with_digit digit 128 low)) ≡ under low (digits_at bs first (limit - i) low.next)
-  under_last negative sign l =
-      let q = digits_last bs first (limit - i) (limit - (i + 1)) low.next (omega (arith, before)) before.1 (omega (arith, same)) in
-      let d : digit ≡ get_or bs low.next 0 = omega (arith, same) in
-      cc same
+  under_last negative sign l = grind (arith, digits_last bs first (limit - i) (limit - (i + 1)) low.next (omega (arith, before)) before.1 (omega (arith, same)), same)
 
   pub under_more : 128 ≤ get_or (take n rest) i 0 → under (with_digit digit 128 low) (digits_at bs first (limit - (i + 1)) (low.next + 1)) ≡ under low (digits_at bs first (limit - i) low.next)
   under_more m =
@@ -67,20 +59,16 @@ module _ (bs rest : List ℕ) (first n i digit : ℕ) (low : Digits) (cut : rest
 pub little_more : (bs : List ℕ) (size i at b r : ℕ) (low : Digits) → i < size → b ≡ get_or bs (at + i) 0 → low.sum + low.weight * little_endian bs (size - i) (at + i) ≡ r → (with_digit b 256 low).sum + (with_digit b 256 low).weight * little_endian bs (size - (i + 1)) (at + (i + 1)) ≡ r
 little_more bs size i at b r low h same whole =
     let k = size - (i + 1) in
-    let w = low.weight in
     let more : size - i ≡ suc k = omega arith in
     let next : at + (i + 1) ≡ at + i + 1 = omega arith in
-    let g : low.sum + w * (get_or bs (at + i) 0 + 256 * little_endian bs k (at + i + 1)) ≡ r = rw more at whole in
-    rw (same, next) (omega (arith, g, mul-add w (get_or bs (at + i) 0) (256 * little_endian bs k (at + i + 1)), mul_assoc w 256 (little_endian bs k (at + i + 1))))
+    rw next (grind (arith, rw more at whole, mul-add low.weight b (256 * little_endian bs k (at + i + 1)), mul_assoc low.weight 256 (little_endian bs k (at + i + 1))))
 
 -- after the last byte
 pub bytes_done : (bs : List ℕ) (width : Width) (at size i : ℕ) (d : Digits) (negative : Bool) → size ≡ width_bytes width → i ≡ size → at + size ≤ length bs → d.weight ≡ 2 ^ (8 * i) → d.next ≡ at + i → d.sum + d.weight * little_endian bs (size - i) (at + i) ≡ little_endian bs size at → negative ≡ leb d.weight (2 * d.sum) → Ok (with_sign negative d) ≡ bytes_at bs (width_bytes width) at
 bytes_done bs width at size i d negative of all inside weight place whole sign =
     let none : size - i ≡ 0 = omega arith in
     let m = rw none at whole in
-    let sum : d.sum ≡ little_endian bs size at = omega arith in
-    let power : d.weight ≡ 2 ^ (8 * size) = rw all at weight in
-    rw (← of) (grind arith)
+    rw (← of) (grind (arith, rw all at weight))
 
 -- a digit of b bits more
 pub weight_more : (b w i : ℕ) → w ≡ 2 ^ (b * i) → w * 2 ^ b ≡ 2 ^ (b * (i + 1))
