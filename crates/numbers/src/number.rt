@@ -176,9 +176,9 @@ fn in_range(value: i64, signed: bool) -> bool
     ensures { result ≡ fits signed value }
 {
     if signed {
-        -0x8000_0000 <= value && value < 0x8000_0000
+        i32::try_from(value).is_ok()
     } else {
-        0 <= value && value < 0x1_0000_0000
+        u32::try_from(value).is_ok()
     }
 }
 
