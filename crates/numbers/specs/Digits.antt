@@ -1,11 +1,26 @@
 -- The digits of a number, over the bytes bs that may be read.
-use Rattle.std.specs.Prelude.{ℕ, zero, suc, ◌+◌, ◌*◌, ◌%◌, ◌^◌, true, false, List, length, Ok, Result, nat_le, nat_lt, slice_index}
+use Rattle.std.specs.Prelude.{ℕ, zero, suc, Bool, ◌+◌, ◌*◌, ◌%◌, ◌^◌, true, false, List, length, Ok, Result, nat_le, nat_lt, slice_index}
 use Rattle.personality.specs.declared.fault.Cause.TheVariants.{CutShort, TooLarge}
 use Rattle.personality.specs.declared.fault.Fault.{Fault}
 use Rattle.numbers.specs.Reading.{broken, then}
-use Rattle.numbers.specs.declared.number.Digits.{Digits}
 use Rattle.numbers.specs.declared.number.Width.{Width}
 use Rattle.numbers.specs.declared.number.Width.TheVariants.{Two, Four}
+
+-- the digits of a number: their sum by weight, the weight after the last, whether the last has its highest bit, and the
+-- offset after it
+pub record Digits : Type 0 where
+  pub sum : ℕ
+  pub weight : ℕ
+  pub negative : Bool
+  pub next : ℕ
+
+-- before the first digit
+abbrev pub no_digits : ℕ → Digits
+no_digits at = record { sum = 0; weight = 1; negative = false; next = at }
+
+-- one digit above the others
+abbrev pub with_digit : ℕ → ℕ → Digits → Digits
+with_digit digit base d = record { sum = d.sum + d.weight * digit; weight = d.weight * base; negative = d.negative; next = d.next + 1 }
 
 -- one seven-bit digit below the others
 abbrev pub above : ℕ → Digits → Digits

@@ -1,5 +1,5 @@
 -- The sixteen formats of a number.
-use Rattle.std.specs.Prelude.{ℕ, true, false, ◌||◌, List, Some, None, Option, Result, ◌==◌, nat_lt}
+use Rattle.std.specs.Prelude.{ℕ, true, false, ◌||◌, List, Some, None, Option, Result, ◌==◌}
 use Rattle.personality.specs.declared.fault.Fault.{Fault}
 use Rattle.numbers.specs.Numbers.{leb128_at, fixed_at}
 use Rattle.numbers.specs.declared.format.Format.{Format}
@@ -13,10 +13,6 @@ unsigned size = Some (record { size = size; signed = false })
 
 abbrev signed : Size → Option Format
 signed size = Some (record { size = size; signed = true })
-
--- the low four bits of a code that has none of the high four
-abbrev pub nibble_of : ℕ → Option ℕ
-nibble_of code = elim (nat_lt code 16) [ true ↦ Some code | false ↦ None ]
 
 -- 0 and 3 are four bytes, 2 two bytes, 1 unsigned LEB128, 9 signed LEB128, a two and b four signed bytes; any other code
 -- is refused

@@ -1,6 +1,6 @@
 // The formats of numbers.
 ghost use Rattle.std.specs.Prelude.{◌≡◌, length, IfOk};
-ghost use Rattle.numbers.specs.Formats.{nibble_of, format_of_code, number_at};
+ghost use Rattle.numbers.specs.Formats.{format_of_code, number_at};
 ghost use Rattle.numbers.specs.Numbers.{Within};
 
 use crate::number::{Number, Width, read_fixed, read_leb128};
@@ -71,21 +71,11 @@ const FORMATS: [Option<Format>; 16] = [
     REFUSED,
 ];
 
-// The low four bits of a code that has none of the high four.
-fn nibble(code: u8) -> Option<usize>
-    ensures { result ≡ nibble_of code }
-{
-    if code < 16 { Some(code as usize) } else { None }
-}
-
 // The format of a code, or None where it is refused.
 pub fn decode_format(code: u8) -> Option<Format>
     ensures { result ≡ format_of_code code }
 {
-    match nibble(code) {
-        Some(n) => FORMATS[n],
-        None => None,
-    }
+    *FORMATS.get(usize::from(code))?
 }
 
 // The number at an offset, in a format.

@@ -1,10 +1,11 @@
 // LEB128 numbers and numbers of two or four bytes.
 ghost use Rattle.std.specs.Prelude.{◌≡◌, ◌*◌, ◌%◌, ◌^◌, ◌<◌, ◌≤◌, length, IfOk, nat_le};
-ghost use Rattle.numbers.specs.Digits.{digits_at, bytes_at, width_bytes};
+ghost use Rattle.numbers.specs.Digits.{no_digits, with_digit, digits_at, bytes_at, width_bytes};
 ghost use Rattle.numbers.specs.Numbers.{limit, value_of, fits, judged, leb128_at, unsigned_at, fixed_at, Within};
 ghost use Rattle.numbers.specs.Laws.{Means};
 
 use personality::fault::{Cause, Fault};
+use std::marker::Model;
 
 // A LEB128 number has at most this many bytes.
 pub const LIMIT: usize = 5;
@@ -39,9 +40,9 @@ impl Width {
     }
 }
 
-// The digits of a number: their sum by weight, the weight after the last, whether the last has its highest bit, and the
-// offset after it.
-#[derive(Clone, Copy)]
+// The digits of a number, read so far: their sum by weight, the weight of the next digit and its offset. Once all are read,
+// `negative` is whether the last has its highest bit.
+#[derive(Drop)]
 struct Digits {
     sum: u64,
     weight: u64,
@@ -49,11 +50,22 @@ struct Digits {
     next: usize,
 }
 
+impl Model for Digits {
+    ghost use Rattle.std.specs.Prelude.{◌^◌, ◌<◌, ◌≤◌};
+    ghost use Rattle.numbers.specs.Digits.{Digits};
+
+    ghost Value = { Digits };
+
+    ghost view = { λ d. record { sum = d.sum; weight = d.weight; negative = d.negative; next = d.next } };
+
+    ghost invariant = { λ d. (d.sum < d.weight) × (d.weight ≤ 2 ^ 56) };
+}
+
 // The seven bits of the number that a byte of LEB128 has.
 fn payload(byte: u8) -> u64
     ensures { result ≡ byte % 128 }
 {
-    (byte % 128) as u64
+    u64::from(byte % 128)
 }
 
 // The highest of the seven bits: in the last byte of a signed number it is the sign.
@@ -63,70 +75,39 @@ fn sign_bit(byte: u8) -> bool
     byte >= 64
 }
 
-// The highest bit of all bytes, whose weight is half of the weight after them.
-fn top_bit(sum: u64, weight: u64) -> bool
-    requires { sum < 2 ^ 56 }
-    ensures { result ≡ nat_le weight (2 * sum) }
-{
-    2 * sum >= weight
-}
-
-fn read_digits(bytes: &[u8], at: usize) -> Result<Digits, Fault>
-    ensures is { result ≡ digits_at bytes.now at limit at }
-    ensures within { IfOk result (λ d. (d.sum < 2 ^ 56) × (d.weight ≤ 2 ^ 56) × (d.next ≤ length bytes.now)) }
-{
-    let mut sum: u64 = 0;
-    let mut weight: u64 = 1;
-    let mut next = at;
-    for _i in 0..LIMIT {
-        if next >= bytes.len() {
-            return Err(Fault::at(Cause::CutShort, at));
-        }
-        let byte = bytes[next];
-        next += 1;
-        sum += weight * payload(byte);
-        weight *= 128;
-        if byte < 128 {
-            return Ok(Digits {
-                sum,
-                weight,
-                negative: sign_bit(byte),
-                next,
-            });
-        }
-    }
-    Err(Fault::at(Cause::TooLarge, at))
-}
-
-fn read_bytes(bytes: &[u8], at: usize, width: Width) -> Result<Digits, Fault>
-    ensures is { result ≡ bytes_at bytes.now (width_bytes width) at }
-    ensures within { IfOk result (λ d. (d.sum < 2 ^ 56) × (d.weight ≤ 2 ^ 56) × (d.next ≤ length bytes.now)) }
-{
-    let size = width.bytes();
-    if at > bytes.len() {
-        return Err(Fault::at(Cause::CutShort, at));
-    }
-    if bytes.len() - at < size {
-        return Err(Fault::at(Cause::CutShort, at));
-    }
-    let mut sum: u64 = 0;
-    let mut weight: u64 = 1;
-    for i in 0..size {
-        sum += weight * bytes[at + i] as u64;
-        weight *= 256;
-    }
-    Ok(Digits {
-        sum,
-        weight,
-        negative: top_bit(sum, weight),
-        next: at + size,
-    })
-}
-
 impl Digits {
-    fn value(self, signed: bool) -> i64
-        requires { (self.sum < 2 ^ 56) × (self.weight ≤ 2 ^ 56) }
-        ensures { result ≡ value_of signed self }
+    // No digit yet: the first is at `at`.
+    fn none(at: usize) -> Digits
+        ensures { result ≡ no_digits at }
+    {
+        Digits {
+            sum: 0,
+            weight: 1,
+            negative: false,
+            next: at,
+        }
+    }
+
+    // One digit more, in one byte more.
+    fn push(&mut self, digit: u64, base: u64)
+        requires small { digit < base }
+        requires room { (self.old.weight * base ≤ 2 ^ 56) × (self.old.next < 2 ^ 63) }
+        ensures { self.new ≡ with_digit digit base self.old }
+    {
+        self.sum += self.weight * digit;
+        self.weight *= base;
+        self.next += 1;
+    }
+
+    // The highest bit of all bytes, whose weight is half of the weight after them.
+    fn top_bit(&self) -> bool
+        ensures { result ≡ nat_le self.now.weight (2 * self.now.sum) }
+    {
+        2 * self.sum >= self.weight
+    }
+
+    fn value(&self, signed: bool) -> i64
+        ensures { result ≡ value_of signed self.now }
     {
         if signed && self.negative {
             self.sum as i64 - self.weight as i64
@@ -136,10 +117,9 @@ impl Digits {
     }
 
     // The number, if it fits 32 bits.
-    fn judge(self, at: usize, signed: bool) -> Result<Number, Fault>
-        requires { (self.sum < 2 ^ 56) × (self.weight ≤ 2 ^ 56) }
-        ensures is { result ≡ judged signed at self }
-        ensures within { IfOk result (Within self.next signed) }
+    fn judge(&self, at: usize, signed: bool) -> Result<Number, Fault>
+        ensures is { result ≡ judged signed at self.now }
+        ensures within { IfOk result (Within self.now.next signed) }
     {
         let value = self.value(signed);
         if in_range(value, signed) {
@@ -153,23 +133,53 @@ impl Digits {
     }
 }
 
+#[tactic(auto, using(crate::proofs::Digit::digits_cut, crate::proofs::Digit::digits_none))]
+fn read_digits(bytes: &[u8], at: usize) -> Result<Digits, Fault>
+    ensures is { result ≡ digits_at bytes.now at limit at }
+    ensures within { IfOk result (λ d. d.next ≤ length bytes.now) }
+{
+    let Some(rest) = bytes.get(at..) else {
+        return Err(Fault::at(Cause::CutShort, at));
+    };
+    let mut digits = Digits::none(at);
+    for &byte in &rest[..rest.len().min(LIMIT)] {
+        digits.push(payload(byte), 128);
+        if byte < 128 {
+            digits.negative = sign_bit(byte);
+            return Ok(digits);
+        }
+    }
+    if rest.len() < LIMIT {
+        return Err(Fault::at(Cause::CutShort, at));
+    }
+    Err(Fault::at(Cause::TooLarge, at))
+}
+
+fn read_bytes(bytes: &[u8], at: usize, width: Width) -> Result<Digits, Fault>
+    ensures is { result ≡ bytes_at bytes.now (width_bytes width) at }
+    ensures within { IfOk result (λ d. d.next ≤ length bytes.now) }
+{
+    let size = width.bytes();
+    let Some(part) = bytes.get(at..).and_then(|rest| rest.get(..size)) else {
+        return Err(Fault::at(Cause::CutShort, at));
+    };
+    let mut digits = Digits::none(at);
+    for &byte in part {
+        digits.push(u64::from(byte), 256);
+    }
+    digits.negative = digits.top_bit();
+    Ok(digits)
+}
+
 // Whether a number fits 32 bits.
 fn in_range(value: i64, signed: bool) -> bool
     ensures { result ≡ fits signed value }
 {
     if signed {
-        -0x8000_0000 <= value && value < 0x8000_0000
+        i32::try_from(value).is_ok()
     } else {
-        0 <= value && value < 0x1_0000_0000
+        u32::try_from(value).is_ok()
     }
-}
-
-fn leb128(bytes: &[u8], at: usize, signed: bool) -> Result<Number, Fault>
-    ensures is { result ≡ leb128_at bytes.now signed at }
-    ensures within { IfOk result (Within (length bytes.now) signed) }
-{
-    let digits = read_digits(bytes, at)?;
-    digits.judge(at, signed)
 }
 
 // The LEB128 number at an offset.
@@ -178,7 +188,7 @@ pub fn read_leb128(bytes: &[u8], at: usize, signed: bool) -> Result<Number, Faul
     ensures within { IfOk result (Within (length bytes.now) signed) }
     ensures means { Means bytes.now signed at result }
 {
-    leb128(bytes, at, signed)
+    read_digits(bytes, at)?.judge(at, signed)
 }
 
 // The unsigned LEB128 number at an offset.
@@ -186,7 +196,7 @@ pub fn read_unsigned(bytes: &[u8], at: usize) -> Result<Unsigned, Fault>
     ensures is { result ≡ unsigned_at bytes.now at }
     ensures within { IfOk result (λ n. n.next ≤ length bytes.now) }
 {
-    let number = leb128(bytes, at, false)?;
+    let number = read_leb128(bytes, at, false)?;
     Ok(Unsigned {
         value: number.value as u32,
         next: number.next,
@@ -198,6 +208,5 @@ pub fn read_fixed(bytes: &[u8], at: usize, width: Width, signed: bool) -> Result
     ensures is { result ≡ fixed_at bytes.now width signed at }
     ensures within { IfOk result (Within (length bytes.now) signed) }
 {
-    let number = read_bytes(bytes, at, width)?;
-    number.judge(at, signed)
+    read_bytes(bytes, at, width)?.judge(at, signed)
 }

@@ -1,13 +1,13 @@
-use Rattle.std.proofs.Common.{None, refl, ap, ◌∙◌, arith}
+use Rattle.std.proofs.Common.{None, refl, sym, ◌∙◌, arith}
 use Rattle.numbers.specs.Formats.{format_of_code}
-use Rattle.numbers.proofs.Table.{listed, refused, nibble_some, nibble_none}
+use Rattle.numbers.proofs.Table.{listed, refused}
 use Rattle.numbers.proofs.format.decode_format.Goals as goal
 
-pub returns-in-Some : goal.returns-in-Some
-unfolding format_of_code
-returns-in-Some c =
-    let p = nibble_some c.args.code c.in-Some.n c.in-Some.ensures in
-    listed _ c.in-Some.n None refl (omega (arith, p.0, p.1)) ∙ ap format_of_code p.0
+pub returns-in_err-get : goal.returns-in_err-get
+returns-in_err-get c = c.from_residual.ensures ∙ sym (refused c.args.code (omega (arith, c.in_err-get.ensures.lookup)))
 
-pub returns-in-None : goal.returns-in-None
-returns-in-None c = refused c.args.code (nibble_none c.args.code c.in-None.ensures)
+pub returns : goal.returns
+unfolding format_of_code
+returns c =
+    let found = c.in_ok-get.ensures.lookup.3 in
+    listed _ c.args.code _ _ (found.1 None) refl (omega arith) found.0

@@ -1,47 +1,25 @@
-use Rattle.std.proofs.Common.{◌≡◌, ◌+◌, ◌-◌, ◌*◌, ◌^◌, ◌≤◌, get_or, Ok, ap, ◌∙◌, arith, pow_mono}
-use Rattle.numbers.specs.Digits.{bytes_at, width_bytes}
-use Rattle.numbers.specs.declared.number.Width.{Width}
-use Rattle.numbers.specs.declared.number.Width.TheVariants.{Two, Four}
-use Rattle.numbers.proofs.Digit.{room, little_more, bytes_done}
+use Rattle.std.proofs.Common.{◌≡◌, ◌+◌, ◌<◌, ◌≤◌, length, get_or, Ok, ap, ◌∙◌, arith}
+use Rattle.std.proofs.lemmas.Grind.{common_steps}
+use Rattle.numbers.proofs.Digit.{little_more, bytes_done, weight_more, with_sign}
 use Rattle.numbers.proofs.number.read_bytes.Goals as goal
 
-at_most_four : (w : Width) → width_bytes w ≤ 4
-at_most_four Two = omega arith
-at_most_four Four = omega arith
+pub loop-byte-preserved : goal.loop-byte-preserved
+loop-byte-preserved c =
+    let i = c.loop-byte.byte-index in
+    let size = c.bytes-size.result in
+    let same : c.from.result ≡ get_or c.args.bytes.now (c.args.at + i) 0 = grind (arith, common_steps, c.and_then.ensures, c.get.ensures.lookup) in
+    let more : i < size = grind (arith, common_steps, c.and_then.ensures, c.get.ensures.lookup) in
+    rw c.push.ensures (record {
+      weight = weight_more 8 _ c.loop-byte.byte-index c.loop-byte.invariant.weight;
+      next = omega arith;
+      sum = little_more c.args.bytes.now size i c.args.at c.from.result _ c.loop-byte.digits more same c.loop-byte.invariant.sum;
+    })
 
-pub overflow_mul-sum : goal.overflow_mul-sum
-overflow_mul-sum c = let m = at_most_four c.args.width in omega (arith, (room 8 c.loop-i.sum c.loop-i.weight c.loop-i.i (get_or c.args.bytes.now (c.args.at + c.loop-i.i) 0) (omega arith) (omega arith) (omega arith) (omega arith)).product)
-
-pub overflow_add-sum-in-loop-i : goal.overflow_add-sum-in-loop-i
-overflow_add-sum-in-loop-i c = let m = at_most_four c.args.width in omega (arith, (room 8 c.loop-i.sum c.loop-i.weight c.loop-i.i (get_or c.args.bytes.now (c.args.at + c.loop-i.i) 0) (omega arith) (omega arith) (omega arith) (omega arith)).sum)
-
-pub overflow_mul-weight : goal.overflow_mul-weight
-overflow_mul-weight c = let m = at_most_four c.args.width in omega (arith, (room 8 c.loop-i.sum c.loop-i.weight c.loop-i.i 0 (omega arith) (omega arith) (omega arith) (omega arith)).weight)
-
-pub loop-i-preserved : goal.loop-i-preserved
-loop-i-preserved c =
-    let m = at_most_four c.args.width in
-    let b = get_or c.args.bytes.now (c.args.at + c.loop-i.i) 0 in
-    let r = room 8 c.loop-i.sum c.loop-i.weight c.loop-i.i b (omega arith) (omega arith) (omega arith) (omega arith) in
-    let next : c.args.at + (c.loop-i.i + 1) ≡ c.args.at + c.loop-i.i + 1 = omega arith in
-    (r.below, r.power, rw next (little_more c.args.bytes.now (c.bytes-size.result - c.loop-i.i) (c.bytes-size.result - (c.loop-i.i + 1)) (c.args.at + c.loop-i.i) c.loop-i.sum c.loop-i.weight _ (omega arith) c.loop-i.invariant.2))
-
-pub top_bit-requires : goal.top_bit-requires
-top_bit-requires c =
-    let m = at_most_four c.args.width in
-    let l : 8 * c.loop-i.i ≤ 32 = omega arith in
-    let p : 2 ^ (8 * c.loop-i.i) ≤ 2 ^ 32 = pow_mono l in
-    omega arith
-
-pub returns : goal.returns
-returns c =
-    let m = at_most_four c.args.width in
-    let l : 8 * c.loop-i.i ≤ 32 = omega arith in
-    let p : 2 ^ (8 * c.loop-i.i) ≤ 2 ^ 32 = pow_mono l in
-    record {
-      is =
-          ap (λ b. Ok (record { sum = c.loop-i.sum; weight = c.loop-i.weight; negative = b; next = c.args.at + c.bytes-size.result })) c.top_bit.ensures
-          ∙ bytes_done c.args.bytes.now c.bytes-size.result c.args.at c.loop-i.i c.loop-i.sum c.loop-i.weight (omega arith) (omega arith) (omega arith) c.loop-i.invariant.1 c.loop-i.invariant.2
-          ∙ ap (λ k. bytes_at c.args.bytes.now k c.args.at) c.bytes-size.ensures;
-      within = (omega arith, omega arith, omega arith);
-    }
+pub returns-clause-is : goal.returns-clause-is
+returns-clause-is c =
+    let i = c.loop-byte.byte-index in
+    let size = c.bytes-size.result in
+    let all : i ≡ size = grind (arith, common_steps, c.and_then.ensures, c.get.ensures.lookup) in
+    let inside : c.args.at + size ≤ length c.args.bytes.now = grind (arith, common_steps, c.and_then.ensures, c.get.ensures.lookup) in
+    ap (λ d. Ok (with_sign c.top_bit.result d)) c.digits.view_is
+    ∙ bytes_done c.args.bytes.now c.args.width c.args.at size i c.loop-byte.digits c.top_bit.result c.bytes-size.ensures all inside c.loop-byte.invariant.weight c.loop-byte.invariant.next c.loop-byte.invariant.sum c.top_bit.ensures
