@@ -109,7 +109,7 @@ pub enum Refusal {
 }
 
 impl Refusal {
-    // The number that reports give.
+    // The number that reports give: `u8::from` would not say which number.
     pub fn number(self) -> u8
         ensures { result ≡ refusal_number self }
     {

@@ -11,7 +11,8 @@ pub trait Language {
     // Whether a catch type catches a thrown type.
     ghost caught: { Self → ℕ → ℕ → Bool };
 
-    // Whether an exception of this class is the language's own: compares it with CLASS.
+    // Whether an exception of this class is the language's own: compares it with CLASS. Each implementation has this body
+    // itself, since the checker states no constant for an implementation with a lifetime, as that of Tree.
     fn is_native(&self, class: u64) -> bool
         ensures { result ≡ (class == native) };
 

@@ -65,7 +65,8 @@ impl<L: Language> Chain<'_, L> {
         type_in(read_fixed(self.bytes, entry, types.width, false)?, at)
     }
 
-    // Type 0 matches everything; another matches a native exception that the language says it catches.
+    // Type 0 matches everything; another matches a native exception that the language says it catches. The number, as the
+    // table has it, is tested here alone.
     fn matches(&self, entry: u16) -> bool
         ensures { result ≡ matching L.Language.native (L.Language.caught self.now.language.now) self.now.question entry }
     {
@@ -79,7 +80,8 @@ impl<L: Language> Chain<'_, L> {
         self.language.catches(entry, question.thrown)
     }
 
-    // Whether a filter at an offset matches. A forced question passes over all filters.
+    // Whether a filter at an offset matches. A forced question passes over all filters. The filter stays a number: one that
+    // matches is the handler's selector as it stands.
     fn hits(&self, filter: i64, at: usize) -> Result<bool, Fault>
         requires { filter <ℤ pos 2147483648 }
         ensures { result ≡ hit_at self.now.bytes.now self.now.start self.now.header.types (matching L.Language.native (L.Language.caught self.now.language.now) self.now.question) self.now.question.forced filter at }
@@ -97,6 +99,7 @@ impl<L: Language> Chain<'_, L> {
         Ok(self.matches(entry))
     }
 
+    // The pad does not go with the flag: a handler lands there too.
     fn end(&self, noted: bool) -> Verdict
         ensures { result ≡ ending noted self.now.pad }
     {
@@ -144,13 +147,12 @@ impl<L: Language> Chain<'_, L> {
     fn step(&self, walk: Walk) -> Result<ControlFlow<Verdict, Walk>, Fault>
         ensures { result ≡ step_at self.now.bytes.now self.now.start self.now.header (matching L.Language.native (L.Language.caught self.now.language.now) self.now.question) self.now.question.forced self.now.pad walk }
     {
-        if walk.at < self.header.sites.end as i64 {
-            return Err(Fault::at(Cause::BadLink, walk.from));
+        match usize::try_from(walk.at) {
+            Ok(at) if self.header.sites.end <= at && at < self.bytes.len() => {
+                self.link(walk.noted, at)
+            }
+            _ => Err(Fault::at(Cause::BadLink, walk.from)),
         }
-        if self.bytes.len() as i64 <= walk.at {
-            return Err(Fault::at(Cause::BadLink, walk.from));
-        }
-        self.link(walk.noted, walk.at as usize)
     }
 
     // The first link: action 1 is at the start of the action table.

@@ -8,7 +8,8 @@ use numbers::number::{Number, Read, Unsigned, read_unsigned};
 use personality::fault::{Cause, Fault};
 use std::ops::ControlFlow;
 
-// An action, and the offset where it stands: 0 is a cleanup, another names the first link of a chain.
+// An action, and the offset where it stands: 0 is a cleanup, another names the first link of a chain. The number stays, as
+// the laws on tables speak of it, and it is tested in one place.
 #[derive(Clone, Copy)]
 pub struct Action {
     pub value: u32,
@@ -195,7 +196,8 @@ impl CallSiteTable<'_> {
         })
     }
 
-    // The record at the search's offset, and then whether it is the one.
+    // The record at the search's offset, and then whether it is the one. A match, not a closure for each layout: the search
+    // carries what is left to count.
     fn look(&self, search: Search) -> Result<ControlFlow<Option<Site>, Search>, Fault>
         ensures { result ≡ look self.now.bytes.now self.now.header self.now.function search }
     {

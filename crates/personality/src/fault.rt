@@ -26,7 +26,7 @@ pub enum Cause {
 }
 
 impl Cause {
-    // The number that reports give.
+    // The number that reports give: `u8::from` would not say which number.
     pub fn number(self) -> u8
         ensures { result ≡ cause_number self }
     {

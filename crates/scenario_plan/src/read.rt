@@ -1,4 +1,5 @@
-// Personalities read from words, by recursive descent: each reader gives what it read, and the words that are left.
+// Personalities read from words, by recursive descent: each reader gives what it read, and the words that are left. The heap
+// is passed beside the words, as everywhere where memory is asked for.
 ghost use Rattle.std.specs.Prelude.{◌≡◌, drop, IfOk};
 ghost use Rattle.scenario_plan.specs.Says.{Lists, SaysLanguage, SaysRelease, SaysTable, SaysLeaf, Enclosed, Says};
 ghost use Rattle.scenario_text.specs.Words.{Begins};
