@@ -32,7 +32,7 @@ impl Tree<'_> {
     }
 }
 
-impl Language for Tree<'_> {
+impl<'a> Language for Tree<'a> {
     const CLASS: u64 = 0x474e_5543_432b_2b00;
 
     ghost native = { tree_class };
