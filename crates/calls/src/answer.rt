@@ -5,7 +5,7 @@ ghost use Rattle.calls.specs.Numbers.{refusal_number};
 use personality::fault::Fault;
 
 // Where an unwinding lands: to run a cleanup, or to enter the handler that its search found.
-#[derive(Clone, Copy)]
+#[derive(Clone, Copy, PartialEq, Eq, Debug)]
 pub enum Kind {
     Cleanup,
     Handler,
@@ -13,7 +13,7 @@ pub enum Kind {
 
 // The exception's serial, the number of the frame (0 at the bottom), the landing pad that it goes on at, and the selector of
 // the handler, 0 at a cleanup.
-#[derive(Clone, Copy)]
+#[derive(Clone, Copy, PartialEq, Eq, Debug)]
 pub struct Landing {
     pub serial: u32,
     pub frame: usize,
@@ -22,7 +22,7 @@ pub struct Landing {
     pub kind: Kind,
 }
 
-#[derive(Clone, Copy)]
+#[derive(Clone, Copy, PartialEq, Eq, Debug)]
 pub enum Answer {
     // enter, move, leave, delete
     Done,
@@ -54,7 +54,7 @@ pub enum Answer {
 }
 
 // Why a call is refused. A refused call changes nothing.
-#[derive(Clone, Copy)]
+#[derive(Clone, Copy, PartialEq, Eq, Debug)]
 pub enum Refusal {
     // there are 64 frames
     FramesFull,
