@@ -1,6 +1,6 @@
 // The twelve calls.
 
-#[derive(Clone, Copy)]
+#[derive(Clone, Copy, PartialEq, Eq, Debug)]
 pub enum Call {
     // puts a frame on top
     Enter { unit: u16, place: u32 },

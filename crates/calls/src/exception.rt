@@ -1,7 +1,7 @@
 // Exceptions, and the records of those that somebody holds.
 
 // What a make fixes for good: `thrown` is the exception's type.
-#[derive(Clone, Copy)]
+#[derive(Clone, Copy, PartialEq, Eq, Debug)]
 pub struct Exception {
     pub serial: u32,
     pub class: u64,
@@ -9,7 +9,7 @@ pub struct Exception {
 }
 
 // An exception that somebody holds.
-#[derive(Clone, Copy)]
+#[derive(Clone, Copy, PartialEq, Eq, Debug)]
 pub struct HeldException {
     pub exception: Exception,
     // it is with its raiser
@@ -17,7 +17,7 @@ pub struct HeldException {
 }
 
 // An open catch: the exception, the number of the frame that its handler is in, and whether the handler has begun.
-#[derive(Clone, Copy)]
+#[derive(Clone, Copy, PartialEq, Eq, Debug)]
 pub struct Catch {
     pub exception: Exception,
     pub frame: usize,

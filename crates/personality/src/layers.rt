@@ -24,7 +24,7 @@ impl Personality for Release {
         if question.unit != 0 {
             return Verdict::Broken(Fault::at(Cause::NoUnit, 0));
         }
-        if self.lo <= question.place && question.place < self.hi {
+        if (self.lo..self.hi).contains(&question.place) {
             return Verdict::Cleanup { pad: self.pad };
         }
         Verdict::Nothing
