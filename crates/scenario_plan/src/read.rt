@@ -140,6 +140,17 @@ fn leaf<'w, 't>(heap: Global, words: &'w [&'t str]) -> Result<Read<'w, 't, Leaf>
     }
 }
 
+// A leaf as a whole personality. Out of line, so that its locals do not stand in each frame of the recursion below.
+#[inline(never)]
+fn single<'w, 't>(
+    heap: Global,
+    words: &'w [&'t str],
+) -> Result<Read<'w, 't, Composed<Leaf>>, Wrong<'t>>
+    ensures { IfOk result (λ x. Says x.found words.now x.rest.now) }
+{
+    Ok(leaf(heap, words)?.map(Composed::Leaf))
+}
+
 // The pair of what was read first and then.
 fn both<'w, 't>(
     heap: Global,
@@ -202,6 +213,6 @@ pub fn read_plan<'w, 't>(
             let below = enclosed(heap, rest)?;
             hosted(heap, below)
         }
-        _ => Ok(leaf(heap, words)?.map(Composed::Leaf)),
+        _ => single(heap, words),
     }
 }
