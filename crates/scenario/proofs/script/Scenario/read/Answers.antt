@@ -1,4 +1,4 @@
-use Rattle.std.proofs.Common.{◌+◌, ap}
+use Rattle.std.proofs.Common.{arith}
 use Rattle.scenario.specs.Scripts.{start, line}
 use Rattle.scenario.proofs.script.Scenario.read.Goals as goal
 
@@ -12,7 +12,7 @@ pub returns-in-Err : goal.returns-in-Err
 returns-in-Err c =
     let step = c.in-Some.ensures.steps in
     let reached = c.loop-index.invariant in
-    (_, _, _, _, reached.0, reached.1, step.0.0.0, ap (λ n. n + 1) step.1)
+    (_, _, _, _, reached.0, reached.1, step.0.0.0, omega (arith, step.1))
 
 pub loop-index-preserved : goal.loop-index-preserved
 loop-index-preserved c =
