@@ -4,7 +4,8 @@ ghost use Rattle.languages.specs.Types.{tree_class, some_parent, caught_in, Catc
 
 use crate::language::Language;
 
-// A lent list of parents, the first that of type 1.
+// A lent list of parents, the first that of type 1: the numbers of types are what tables and questions have, so the list
+// stays a list by number.
 #[derive(Clone, Copy)]
 pub struct Tree<'a> {
     pub parents: &'a [u16],

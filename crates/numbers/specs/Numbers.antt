@@ -38,7 +38,8 @@ unsigned_at bs at = then (leb128_at bs false at) (λ n. Ok (record { value = uns
 abbrev pub fixed_at : List ℕ → Width → Bool → ℕ → Result Number Fault
 fixed_at bs width signed at = then (bytes_at bs (width_bytes width) at) (judged signed at)
 
--- what every number that was read keeps: it ends at `end` or before, and fits 32 bits
+-- what every number that was read keeps: it ends at `end` or before, and fits 32 bits. It relates the number to its bytes and
+-- to the sign that was asked for, and so is no invariant of the number
 pub record Within (end : ℕ) (signed : Bool) (n : Number) : Type 0 where
   pub next : n.next ≤ end
   pub low : negsuc 2147483647 ≤ℤ n.value

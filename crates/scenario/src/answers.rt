@@ -22,7 +22,8 @@ fn answer_all<P: Personality>(
 }
 
 impl Scenario {
-    // The answers to the questions, in their order: none without a personality.
+    // The answers to the questions, in their order: none without a personality. A list beside the questions, so that a
+    // contract can say that it is their list under one function.
     pub fn answers(&self, heap: Global) -> Result<Vec<Verdict>, AllocError>
         ensures { IfOk result (λ v. Answered self.now.personality self.now.image.items self.now.questions.items v.items) }
     {
