@@ -1,17 +1,16 @@
 -- What is read is what the bytes encode, and what they encode is read.
-use Rattle.std.proofs.Common.{◌≡◌, ℕ, zero, suc, ◌+◌, ◌-◌, ◌*◌, ◌%◌, ◌^◌, ◌<◌, ◌≤◌, Bool, true, false, leb, List, length, get_or, ℤ, Ok, Err, Result, sym, refl, ap, ◌∙◌, subst, inl, inr, mul_left_comm, add-one, arith}
+use Rattle.std.proofs.Common.{◌≡◌, ℕ, zero, suc, ◌+◌, ◌-◌, ◌*◌, ◌%◌, ◌^◌, ◌<◌, ◌≤◌, Bool, true, false, leb, List, length, get_or, ℤ, Ok, Err, Result, sym, refl, ◌∙◌, inl, inr, mul_left_comm, add-one, arith}
 use native.Mathlib.Nat.{pow-succ'}
 use Rattle.std.proofs.lemmas.Bool.{cases_lt}
 use Rattle.personality.specs.declared.fault.Fault.{Fault}
-use Rattle.numbers.specs.Digits.{Digits}
 use Rattle.numbers.specs.declared.format.Format.{Format}
 use Rattle.numbers.specs.declared.format.Size.{Size}
 use Rattle.numbers.specs.declared.format.Size.TheVariants.{Leb128, Fixed}
 use Rattle.numbers.specs.declared.number.Width.{Width}
 use Rattle.numbers.specs.declared.number.Width.TheVariants.{Two, Four}
-use Rattle.numbers.specs.Digits.{digits_at, bytes_at, width_bytes}
+use Rattle.numbers.specs.Digits.{Digits, digits_at, bytes_at, width_bytes}
 use Rattle.numbers.specs.Formats.{number_at}
-use Rattle.numbers.specs.Laws.{Shaped, sum_to, digit_sum, meaning, Encodes, Means}
+use Rattle.numbers.specs.Laws.{Shaped, sum_to, digit_sum, Encodes, Means}
 use Rattle.numbers.specs.Numbers.{limit, value_of, fits, judged, leb128_at, unsigned_at}
 use Rattle.numbers.specs.Reading.{Number, Unsigned, then}
 use Rattle.numbers.proofs.Digit.{digits_cut, digits_last, digits_more, digits_none}
@@ -100,9 +99,7 @@ module _ (bs : List ℕ) (at : ℕ) (signed : Bool) where
       let s = shape bs at limit at d p.1 in
       let same : d ≡ written bs at s.0 = let q = read bs at limit at s.0 s.1 s.2 in cc in
       let j = judged_fits signed at d r p.2 in
-      let value : r.value ≡ meaning bs at s.0 signed = j.1 ∙ ap (value_of signed) same in
-      let next : r.next ≡ at + s.0 = j.2 ∙ ap (λ (c : Digits). c.next) same in
-      (s.0, s.1, record { shaped = s.2; value = value; fit = subst (λ z. fits signed z ≡ true) (sym j.1) j.0 }, next)
+      (s.0, s.1, record { shaped = s.2; value = grind (arith, j, same); fit = grind (arith, j) }, grind (arith, j, same))
 
   decodes : (n : ℕ) (z : ℤ) → n ≤ limit → Encodes bs at signed n z → leb128_at bs signed at ≡ Ok (record { value = z; next = at + n })
   decodes n z l w =

@@ -3,9 +3,8 @@ use Rattle.std.specs.Prelude.{◌≡◌, ℕ, ◌≤◌, Bool, true, false, ◌&
 use Rattle.std.proofs.Math.IntN.{sub_ℕ}
 use Rattle.personality.specs.declared.fault.Cause.TheVariants.{TooLarge}
 use Rattle.personality.specs.declared.fault.Fault.{Fault}
-use Rattle.numbers.specs.Digits.{digits_at, bytes_at, width_bytes}
+use Rattle.numbers.specs.Digits.{Digits, digits_at, bytes_at, width_bytes}
 use Rattle.numbers.specs.Reading.{Number, Unsigned, broken, then}
-use Rattle.numbers.specs.Digits.{Digits}
 use Rattle.numbers.specs.declared.number.Width.{Width}
 
 -- a LEB128 number has at most this many bytes

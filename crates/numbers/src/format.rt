@@ -73,6 +73,7 @@ const FORMATS: [Option<Format>; 16] = [
 ];
 
 // The format of a code, or None where it is refused.
+#[tactic(auto, unfolding(crate::specs::Formats::format_of_code))]
 pub fn decode_format(code: u8) -> Option<Format>
     ensures { result ≡ format_of_code code }
 {
