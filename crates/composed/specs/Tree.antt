@@ -1,5 +1,5 @@
 -- The verdict of a tree of personalities, and what a tree is made of.
-use Rattle.std.specs.Prelude.{◌≡◌, ℕ, ◌+◌, List}
+use Rattle.std.specs.Prelude.{◌≡◌, ℕ, List}
 use Rattle.personality.specs.Layers.{pair_verdict, guest_verdict}
 use Rattle.personality.specs.declared.verdict.Question.{Question}
 use Rattle.personality.specs.declared.verdict.Verdict.{Verdict}
@@ -15,12 +15,6 @@ abbrev pub composed_verdict : {P : Type 0} → Meaning P → Meaning (Composed P
 composed_verdict verdict (Leaf leaf) image q = verdict leaf image q
 composed_verdict verdict (Pair' _ first _ second) image q = pair_verdict (composed_verdict verdict first image) (composed_verdict verdict second image) q
 composed_verdict verdict (Guest' _ below) image q = guest_verdict (composed_verdict verdict below image) q
-
--- how many layers a tree has: what a recursion over it ends by
-abbrev pub layers : {P : Type 0} → Composed P → ℕ
-layers (Leaf leaf) = 0
-layers (Pair' _ first _ second) = layers first + layers second + 1
-layers (Guest' _ below) = layers below + 1
 
 -- the tree is a pair of these two
 abbrev pub PairOf : {P : Type 0} → Composed P → Composed P → Composed P → Type 0

@@ -28,9 +28,12 @@ mod tests {
         }
     }
 
-    fn tell(rt: &impl Abort, heap: Global, text: &str, expected: &str) -> Result<(), Fail> {
-        let said = told(heap, text)?;
-        assert!(rt; said.as_str() == expected, "{}", text);
+    // Each scenario is told as expected.
+    fn tell(rt: &impl Abort, heap: Global, cases: &[(&str, &str)]) -> Result<(), Fail> {
+        for (text, expected) in cases {
+            let said = told(heap, *text)?;
+            assert!(rt; said.as_str() == *expected, "{}", *text);
+        }
         Ok(())
     }
 
@@ -77,10 +80,7 @@ mod tests {
                 "line 1: '70000' does not fit 16 bits",
             ),
         ];
-        for (text, expected) in cases {
-            tell(&rt, rt.alloc(), text, expected)?;
-        }
-        Ok(())
+        tell(&rt, rt.alloc(), &cases)
     }
 
     #[test]
@@ -136,10 +136,7 @@ mod tests {
                 "line 1: ')' is left over after the personality",
             ),
         ];
-        for (text, expected) in cases {
-            tell(&rt, rt.alloc(), text, expected)?;
-        }
-        Ok(())
+        tell(&rt, rt.alloc(), &cases)
     }
 
     #[test]
@@ -182,10 +179,7 @@ mod tests {
                 "line 3: serials stands after the first ask",
             ),
         ];
-        for (text, expected) in cases {
-            tell(&rt, rt.alloc(), text, expected)?;
-        }
-        Ok(())
+        tell(&rt, rt.alloc(), &cases)
     }
 
     #[test]
@@ -207,9 +201,6 @@ mod tests {
                 "ask 0 0 0000000000000000 0 plain: cleanup pad 2; ask 1 0 0000000000000000 0 plain: cleanup pad 3; ask 2 0 0000000000000000 0 plain: broken cause 8 offset 0 layer 4; ",
             ),
         ];
-        for (text, expected) in cases {
-            tell(&rt, rt.alloc(), text, expected)?;
-        }
-        Ok(())
+        tell(&rt, rt.alloc(), &cases)
     }
 }
