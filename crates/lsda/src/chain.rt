@@ -70,14 +70,8 @@ impl<L: Language> Chain<'_, L> {
     fn matches(&self, entry: u16) -> bool
         ensures { result ≡ matching L.Language.native (L.Language.caught self.now.language.now) self.now.question entry }
     {
-        let question = self.question;
-        if entry == 0 {
-            return true;
-        }
-        if !self.language.is_native(question.class) {
-            return false;
-        }
-        self.language.catches(entry, question.thrown)
+        let Question { class, thrown, .. } = self.question;
+        entry == 0 || self.language.is_native(class) && self.language.catches(entry, thrown)
     }
 
     // Whether a filter at an offset matches. A forced question passes over all filters. The filter stays a number: one that
@@ -86,16 +80,11 @@ impl<L: Language> Chain<'_, L> {
         requires { filter <ℤ pos 2147483648 }
         ensures { result ≡ hit_at self.now.bytes.now self.now.start self.now.header.types (matching L.Language.native (L.Language.caught self.now.language.now) self.now.question) self.now.question.forced filter at }
     {
-        if filter == 0 {
+        if filter == 0 || self.question.forced {
             return Ok(false);
         }
-        if self.question.forced {
-            return Ok(false);
-        }
-        if filter < 0 {
-            return Err(Fault::at(Cause::BadTypeEntry, at));
-        }
-        let entry = self.entry(filter as u32, at)?;
+        let n = u32::try_from(filter).map_err(|_| Fault::at(Cause::BadTypeEntry, at))?;
+        let entry = self.entry(n, at)?;
         Ok(self.matches(entry))
     }
 

@@ -35,6 +35,9 @@ pub struct Header {
     pub sites: CallSites,
 }
 
+// What stands in the place of a format where the field is omitted.
+const OMITTED: u8 = 0xff;
+
 fn read_byte(bytes: &[u8], at: usize) -> Result<u8, Fault>
     ensures is { result ≡ byte_at bytes.now at }
     ensures within { OnOk result (at < length bytes.now) }
@@ -67,7 +70,7 @@ fn read_landing(bytes: &[u8], at: usize, function: u32) -> Result<Unsigned, Faul
     ensures within { IfOk result (λ n. n.next ≤ length bytes.now) }
 {
     let code = read_byte(bytes, at)?;
-    if code == 0xff {
+    if code == OMITTED {
         return Ok(Read {
             value: function,
             next: at + 1,
@@ -94,7 +97,7 @@ fn read_types(bytes: &[u8], at: usize) -> Result<Read<Option<TypeTable>>, Fault>
     ensures within { IfOk result (λ t. (t.next ≤ length bytes.now) × Near t.value) }
 {
     let code = read_byte(bytes, at)?;
-    if code == 0xff {
+    if code == OMITTED {
         return Ok(Read {
             value: None,
             next: at + 1,
@@ -126,13 +129,14 @@ fn read_sites(bytes: &[u8], at: usize, layout: Layout) -> Result<CallSites, Faul
     let code = read_byte(bytes, at)?;
     let format = call_site_format(layout, code, at)?;
     let length = read_unsigned(bytes, at + 1)?;
-    if bytes.len() - length.next < length.value as usize {
+    let end = length.next + length.value as usize;
+    if bytes.len() < end {
         return Err(Fault::at(Cause::PastCallSites, at + 1));
     }
     Ok(CallSites {
         format,
         at: length.next,
-        end: length.next + length.value as usize,
+        end,
     })
 }
 
