@@ -3,4 +3,5 @@
 
 pub mod exact;
 pub mod language;
+pub mod owned;
 pub mod tree;

@@ -4,8 +4,7 @@ ghost use Rattle.languages.specs.Types.{tree_class, some_parent, caught_in, Catc
 
 use crate::language::Language;
 
-// A lent list of parents, the first that of type 1: the numbers of types are what tables and questions have, so the list
-// stays a list by number.
+// A lent list of parents, the first that of type 1: a list by number, as types are numbers in tables and questions.
 #[derive(Clone, Copy)]
 pub struct Tree<'a> {
     pub parents: &'a [u16],
@@ -25,11 +24,7 @@ impl Tree<'_> {
     {
         let index = usize::from(of).checked_sub(1)?;
         let parent = *self.parents.get(index)?;
-        if parent != 0 && parent < of {
-            Some(parent)
-        } else {
-            None
-        }
+        (parent != 0 && parent < of).then_some(parent)
     }
 }
 

@@ -50,9 +50,7 @@ impl<L: Language> Chain<'_, L> {
     fn entry(&self, n: u32, at: usize) -> Result<u16, Fault>
         ensures { result ≡ entry_at self.now.bytes.now self.now.start self.now.header.types n at }
     {
-        let Some(types) = self.header.types else {
-            return Err(Fault::at(Cause::BadTypeEntry, at));
-        };
+        let types = self.header.types.ok_or(Fault::at(Cause::BadTypeEntry, at))?;
         let size = types.width.bytes();
         let back = n as usize * size;
         if types.base < self.start as usize + back {
@@ -65,8 +63,8 @@ impl<L: Language> Chain<'_, L> {
         type_in(read_fixed(self.bytes, entry, types.width, false)?, at)
     }
 
-    // Type 0 matches everything; another matches a native exception that the language says it catches. The number, as the
-    // table has it, is tested here alone.
+    // Type 0 matches everything; another matches a native exception that the language says it catches. A number, since an
+    // enum made of it would be matched here alone.
     fn matches(&self, entry: u16) -> bool
         ensures { result ≡ matching L.Language.native (L.Language.caught self.now.language.now) self.now.question entry }
     {
@@ -74,8 +72,8 @@ impl<L: Language> Chain<'_, L> {
         entry == 0 || self.language.is_native(class) && self.language.catches(entry, thrown)
     }
 
-    // Whether a filter at an offset matches. A forced question passes over all filters. The filter stays a number: one that
-    // matches is the handler's selector as it stands.
+    // Whether a filter at an offset matches. A forced question passes over all filters. A number, since one that matches
+    // is the handler's selector.
     fn hits(&self, filter: i64, at: usize) -> Result<bool, Fault>
         requires { filter <ℤ pos 2147483648 }
         ensures { result ≡ hit_at self.now.bytes.now self.now.start self.now.header.types (matching L.Language.native (L.Language.caught self.now.language.now) self.now.question) self.now.question.forced filter at }
@@ -99,8 +97,8 @@ impl<L: Language> Chain<'_, L> {
         }
     }
 
-    // What follows a link that does not match: the end, or the link that its displacement leads to, counted from the
-    // displacement's own first byte.
+    // What follows a link that does not match: the end where its displacement is 0, or the link that it leads to, counted
+    // from its own first byte.
     fn go_on(&self, noted: bool, filter: Number, displacement: Number) -> ControlFlow<Verdict, Walk>
         requires short { filter.next < 2 ^ 33 }
         requires above { negsuc 2147483647 ≤ℤ displacement.value }
@@ -129,7 +127,7 @@ impl<L: Language> Chain<'_, L> {
                 selector: filter.value as i32,
             }));
         }
-        Ok(self.go_on(noted | (filter.value == 0), filter, displacement))
+        Ok(self.go_on(noted || filter.value == 0, filter, displacement))
     }
 
     // The link that a walk has come to, which starts in the action table.
@@ -150,7 +148,7 @@ impl<L: Language> Chain<'_, L> {
     {
         let actions = self.header.sites.end;
         Walk {
-            at: actions as i64 + action.value as i64 - 1,
+            at: actions as i64 + i64::from(action.value) - 1,
             from: action.at,
             noted: false,
         }

@@ -78,9 +78,10 @@ impl<L: Language> Table<L> {
     fn judge(&self, image: &[u8], question: Question) -> Result<Verdict, Fault>
         ensures { result ≡ judged_at L.Language.native (L.Language.caught self.now.language) self.now image.now question }
     {
+        let layout = self.layout;
         let bytes = self.bytes(image)?;
-        let header = read_header(bytes, self.start as usize, self.function, self.layout)?;
-        let Some(wanted) = self.layout.wanted(question.place) else {
+        let header = read_header(bytes, self.start as usize, self.function, layout)?;
+        let Some(wanted) = layout.wanted(question.place) else {
             return Ok(Verdict::Nothing);
         };
         let sites = CallSiteTable {

@@ -8,8 +8,8 @@ use numbers::number::{Number, Read, Unsigned, read_unsigned};
 use personality::fault::{Cause, Fault};
 use std::ops::ControlFlow;
 
-// An action, and the offset where it stands: 0 is a cleanup, another names the first link of a chain. The number stays, as
-// the laws on tables speak of it, and it is tested in one place.
+// An action, and the offset where it stands: 0 is a cleanup, another names the first link of a chain. A number, since an enum
+// would have number and offset in its one other arm, and be matched in one place.
 #[derive(Clone, Copy)]
 pub struct Action {
     pub value: u32,
@@ -40,7 +40,8 @@ pub struct Fields {
     pub action: Unsigned,
 }
 
-// The call site that is looked for: that of a place, or the one that comes after so many.
+// The call site that is looked for: that of a place, or the one that comes after so many. There is none at number 0, which
+// is no case of its own, as the count goes down to it.
 #[derive(Clone, Copy)]
 pub enum Wanted {
     Place(u32),
@@ -84,35 +85,33 @@ fn make_address(base: u32, value: i64, at: usize) -> Result<u32, Fault>
     u32::try_from(sum).map_err(|_| Fault::at(Cause::BadAddress, at))
 }
 
-impl Ranged {
-    // A place below the record is unlisted, one below the record's end is the record's, and another is looked for from
-    // `next` on.
-    fn judge(self, place: u32, next: usize) -> ControlFlow<Option<Site>, Search>
-        ensures { result ≡ ranged_turn place (record { value = self; next = next }) }
-    {
-        if place < self.from {
-            return ControlFlow::Break(None);
-        }
-        if place < self.to {
-            return ControlFlow::Break(Some(self.site));
-        }
-        ControlFlow::Continue(Search {
-            at: next,
-            wanted: Wanted::Place(place),
-        })
-    }
-}
-
-// The n-th call site from a record on: that record's, or one that is looked for from `next` on.
-fn judge_numbered(n: u32, site: Read<Site>) -> ControlFlow<Option<Site>, Search>
-    requires { 0 < n }
-    ensures { result ≡ numbered_turn n site }
+// The call site of a place from a record on: below the record the place is unlisted, below the record's end it is the
+// record's, and else it is looked for from the next record on.
+fn judge_ranged(place: u32, found: Read<Ranged>) -> ControlFlow<Option<Site>, Search>
+    ensures { result ≡ ranged_turn place found }
 {
-    if n == 1 {
-        return ControlFlow::Break(Some(site.value));
+    if place < found.value.from {
+        return ControlFlow::Break(None);
+    }
+    if place < found.value.to {
+        return ControlFlow::Break(Some(found.value.site));
     }
     ControlFlow::Continue(Search {
-        at: site.next,
+        at: found.next,
+        wanted: Wanted::Place(place),
+    })
+}
+
+// The n-th call site from a record on: that record's, or one that is looked for from the next record on.
+fn judge_numbered(n: u32, found: Read<Site>) -> ControlFlow<Option<Site>, Search>
+    requires { 0 < n }
+    ensures { result ≡ numbered_turn n found }
+{
+    if n == 1 {
+        return ControlFlow::Break(Some(found.value));
+    }
+    ControlFlow::Continue(Search {
+        at: found.next,
         wanted: Wanted::Nth(n - 1),
     })
 }
@@ -152,7 +151,7 @@ impl CallSiteTable<'_> {
         let from = make_address(self.function, f.start.value, at)?;
         let to = make_address(from, f.length.value, f.start.next)?;
         let pad = make_address(self.header.landing, f.pad.value, f.length.next)?;
-        let pad = if f.pad.value == 0 { None } else { Some(pad) };
+        let pad = (f.pad.value != 0).then_some(pad);
         let action = Action {
             value: f.action.value,
             at: f.pad.next,
@@ -196,8 +195,8 @@ impl CallSiteTable<'_> {
         })
     }
 
-    // The record at the search's offset, and then whether it is the one. A match, not a closure for each layout: the search
-    // carries what is left to count.
+    // The record at the search's offset, and then whether it is the one. A match, since a closure for each layout would have
+    // to carry what is left to count.
     fn look(&self, search: Search) -> Result<ControlFlow<Option<Site>, Search>, Fault>
         ensures { result ≡ look self.now.bytes.now self.now.header self.now.function search }
     {
@@ -205,17 +204,14 @@ impl CallSiteTable<'_> {
             return Ok(ControlFlow::Break(None));
         }
         match search.wanted {
-            Wanted::Place(place) => {
-                let record = self.ranged(search.at)?;
-                Ok(record.value.judge(place, record.next))
-            }
+            Wanted::Place(place) => Ok(judge_ranged(place, self.ranged(search.at)?)),
             Wanted::Nth(0) => Ok(ControlFlow::Break(None)),
             Wanted::Nth(n) => Ok(judge_numbered(n, self.numbered(search.at)?)),
         }
     }
 
     // The call site that is wanted, None where the place is unlisted. A record has a byte or more, so that as many turns as
-    // there are bytes are enough.
+    // there are bytes are enough. A loop as that along a chain, since one over a closure would need a relation of its turns.
     #[tactic(auto, using(crate::proofs::Turns::turn_err, crate::proofs::Turns::turn_done, crate::proofs::Turns::turn_next, crate::proofs::Turns::turn_end))]
     pub(crate) fn find(&self, wanted: Wanted) -> Result<Option<Site>, Fault>
         ensures { result ≡ find_site self.now.bytes.now self.now.header self.now.function wanted }
@@ -236,7 +232,7 @@ impl CallSiteTable<'_> {
 }
 
 impl Layout {
-    // What a place asks for: a number above 31 bits is negative, and asks for nothing.
+    // What a place asks for: as the rules have it, a number above 31 bits is negative, and asks for nothing.
     pub(crate) fn wanted(self, place: u32) -> Option<Wanted>
         ensures { result ≡ wanted_of self place }
     {

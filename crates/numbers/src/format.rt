@@ -19,7 +19,7 @@ pub struct Format {
     pub signed: bool,
 }
 
-// A constant for each, since a constant's value can call no function.
+// The formats are a constant table, under one rule, and so constants each: a constant's value can call no function.
 const REFUSED: Option<Format> = None;
 
 const UNSIGNED_LEB128: Option<Format> = Some(Format {

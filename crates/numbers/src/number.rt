@@ -30,6 +30,7 @@ pub enum Width {
 }
 
 impl Width {
+    // The number of bytes: `usize::from` would not say of what.
     pub fn bytes(self) -> usize
         ensures { result ≡ width_bytes self }
     {
@@ -160,9 +161,10 @@ fn read_bytes(bytes: &[u8], at: usize, width: Width) -> Result<Digits, Fault>
     ensures within { IfOk result (λ d. d.next ≤ length bytes.now) }
 {
     let size = width.bytes();
-    let Some(part) = bytes.get(at..).and_then(|rest| rest.get(..size)) else {
-        return Err(Fault::at(Cause::CutShort, at));
-    };
+    let part = bytes
+        .get(at..)
+        .and_then(|rest| rest.get(..size))
+        .ok_or(Fault::at(Cause::CutShort, at))?;
     let mut digits = Digits::none(at);
     for &byte in part {
         digits.push(u64::from(byte), 256);
