@@ -4,14 +4,15 @@ ghost use Rattle.composed.specs.Tree.{composed_verdict, PairOf, GuestOf};
 ghost use Rattle.composed.specs.Forced.{harmless};
 
 use personality::interface::Personality;
+use personality::layers::{Guest, Pair};
 use personality::verdict::{Question, Verdict};
 use std::alloc::{AllocError, Global};
 
 #[derive(Drop)]
 pub enum Composed<P> {
     Leaf(P),
-    Pair(Box<Composed<P>>, Box<Composed<P>>),
-    Guest(Box<Composed<P>>),
+    Pair(Box<Pair<Composed<P>, Composed<P>>>),
+    Guest(Box<Guest<Composed<P>>>),
 }
 
 impl<P: Drop> Composed<P> {
@@ -23,16 +24,14 @@ impl<P: Drop> Composed<P> {
     ) -> Result<Composed<P>, AllocError>
         ensures { IfOk result (λ x. PairOf x first second) }
     {
-        let first = Box::new(heap, first)?;
-        let second = Box::new(heap, second)?;
-        Ok(Composed::Pair(first, second))
+        Ok(Composed::Pair(Box::new(heap, Pair { first, second })?))
     }
 
     // Asks the forced question below, whatever it is asked.
     pub fn guest(heap: Global, below: Composed<P>) -> Result<Composed<P>, AllocError>
         ensures { IfOk result (λ x. GuestOf x below) }
     {
-        Ok(Composed::Guest(Box::new(heap, below)?))
+        Ok(Composed::Guest(Box::new(heap, Guest { below })?))
     }
 }
 
@@ -44,16 +43,8 @@ impl<P: Personality> Personality for Composed<P> {
     fn ask(&self, image: &[u8], question: Question) -> Verdict {
         match self {
             Composed::Leaf(leaf) => leaf.ask(image, question),
-            Composed::Pair(first, second) => {
-                let half = question.halve();
-                let verdict = if question.unit % 2 == 0 {
-                    first.ask(image, half)
-                } else {
-                    second.ask(image, half)
-                };
-                verdict.pass_up()
-            }
-            Composed::Guest(below) => below.ask(image, question.press()).pass_up(),
+            Composed::Pair(pair) => pair.ask(image, question),
+            Composed::Guest(guest) => guest.ask(image, question),
         }
     }
 }

@@ -3,9 +3,9 @@ ghost use Rattle.std.specs.Prelude.{◌≡◌, None, Some, vec_len, MatchResult,
 ghost use Rattle.scenario.specs.Scripts.{Added, Follows, Fresh, ReadWhole, StoppedAt};
 
 use crate::statement::{Statement, read_statement};
-use composed::leaf::Leaf;
 use composed::tree::Composed;
 use personality::verdict::Question;
+use scenario_plan::read::OwnedLeaf;
 use scenario_text::mistake::{Mistake, Wrong};
 use scenario_text::words::words;
 use std::alloc::Global;
@@ -28,8 +28,8 @@ fn give_once<'t, T: Drop>(
 #[derive(Drop)]
 pub struct Scenario {
     pub image: Vec<u8>,
-    pub personality: Option<Composed<Leaf>>,
-    // what the runtime is set up with; 0 where it is not given
+    pub personality: Option<Composed<OwnedLeaf>>,
+    // what the runtime is set up with, if it is given
     pub serials: Option<u32>,
     pub questions: Vec<Question>,
 }
@@ -64,9 +64,9 @@ impl Scenario {
                 self.still_setting_up("image")?;
                 self.image.extend_from_slice(bytes.as_slice())?;
             }
-            Statement::Personality(plan) => {
+            Statement::Personality(personality) => {
                 self.still_setting_up("personality")?;
-                give_once(&mut self.personality, plan, "personality")?;
+                give_once(&mut self.personality, personality, "personality")?;
             }
             Statement::Serials(number) => {
                 self.still_setting_up("serials")?;

@@ -3,10 +3,9 @@ ghost use Rattle.std.specs.Prelude.{◌≡◌, length, IfOk};
 ghost use Rattle.scenario_text.specs.Words.{Writes};
 ghost use Rattle.scenario.specs.Statements.{Bytes, Forced, SaysQuestion, SaysAll, SaysLine};
 
-use composed::leaf::Leaf;
 use composed::tree::Composed;
 use personality::verdict::Question;
-use scenario_plan::read::read_plan;
+use scenario_plan::read::{OwnedLeaf, read_plan};
 use scenario_text::mistake::{Form, Wrong};
 use scenario_text::number::{read_byte, read_class, read_u16, read_u32};
 use std::alloc::Global;
@@ -14,7 +13,7 @@ use std::alloc::Global;
 #[derive(Drop)]
 pub enum Statement {
     Image(Vec<u8>),
-    Personality(Composed<Leaf>),
+    Personality(Composed<OwnedLeaf>),
     Serials(u32),
     Ask(Question),
 }
@@ -30,8 +29,8 @@ fn bytes<'t>(heap: Global, words: &[&'t str]) -> Result<Vec<u8>, Wrong<'t>>
     Ok(found)
 }
 
-// A plan that takes all the words.
-fn personality<'t>(heap: Global, words: &[&'t str]) -> Result<Composed<Leaf>, Wrong<'t>>
+// A personality that takes all the words.
+fn personality<'t>(heap: Global, words: &[&'t str]) -> Result<Composed<OwnedLeaf>, Wrong<'t>>
     ensures { IfOk result (λ plan. SaysAll plan words.now) }
 {
     let read = read_plan(heap, words)?;

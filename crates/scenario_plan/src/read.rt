@@ -1,12 +1,14 @@
 // Personalities read from words, by recursive descent: each reader gives what it read, and the words that are left. The heap
-// is passed beside the words, as everywhere where memory is asked for.
+// and the words are two parameters: of a struct of both each reader would take the words apart and keep the heap.
 ghost use Rattle.std.specs.Prelude.{◌≡◌, drop, IfOk};
-ghost use Rattle.scenario_plan.specs.Says.{Lists, SaysLanguage, SaysRelease, SaysTable, SaysLeaf, Enclosed, Says};
+ghost use Rattle.scenario_plan.specs.Says.{Lists, SaysLanguage, SaysRelease, SaysTable, SaysLeaf, Enclosed, Says, leaf_of};
 ghost use Rattle.scenario_text.specs.Words.{Begins};
 ghost use Rattle.composed.specs.Tree.{PairOf, GuestOf};
 
-use composed::leaf::{AnyLanguage, Leaf};
+use composed::leaf::{AnyLeaf, Leaf};
 use composed::tree::Composed;
+use languages::exact::Exact;
+use languages::owned::OwnedTree;
 use lsda::Layout;
 use lsda::leaf::Table;
 use personality::layers::Release;
@@ -14,7 +16,16 @@ use scenario_text::mistake::{Form, Wrong};
 use scenario_text::number::{read_u16, read_u32};
 use std::alloc::Global;
 
-// What was read, and the words after it.
+// A leaf that owns its lists.
+pub type OwnedLeaf = Leaf<OwnedTree>;
+
+#[derive(Drop)]
+pub enum Spoken {
+    Tree(OwnedTree),
+    Exact(Exact),
+}
+
+// What was read, and the words after it: as numbers are read, but from words.
 #[derive(Drop)]
 pub struct Read<'w, 't, T> {
     pub found: T,
@@ -50,8 +61,8 @@ fn bracket<'w, 't>(words: &'w [&'t str], mark: &'t str) -> Result<&'w [&'t str],
 }
 
 // The numbers up to a closing bracket or the end of the line.
-fn parents<'w, 't>(heap: Global, words: &'w [&'t str]) -> Result<Read<'w, 't, Vec<u16>>, Wrong<'t>>
-    ensures { IfOk result (λ x. Lists x.found.items words.now x.rest.now) }
+fn parents<'w, 't>(heap: Global, words: &'w [&'t str]) -> Result<Read<'w, 't, OwnedTree>, Wrong<'t>>
+    ensures { IfOk result (λ x. Lists x.found.parents.items words.now x.rest.now) }
 {
     let mut found = Vec::new(heap);
     let mut rest = words;
@@ -62,19 +73,19 @@ fn parents<'w, 't>(heap: Global, words: &'w [&'t str]) -> Result<Read<'w, 't, Ve
         found.push(read_u16(*first)?)?;
         rest = others;
     }
-    Ok(Read { found, rest })
+    Ok(Read {
+        found: OwnedTree { parents: found },
+        rest,
+    })
 }
 
-fn language<'w, 't>(
-    heap: Global,
-    words: &'w [&'t str],
-) -> Result<Read<'w, 't, AnyLanguage>, Wrong<'t>>
+fn language<'w, 't>(heap: Global, words: &'w [&'t str]) -> Result<Read<'w, 't, Spoken>, Wrong<'t>>
     ensures { IfOk result (λ x. SaysLanguage x.found words.now x.rest.now) }
 {
     match words {
-        ["tree", rest @ ..] => Ok(parents(heap, rest)?.map(AnyLanguage::Tree)),
+        ["tree", rest @ ..] => Ok(parents(heap, rest)?.map(Spoken::Tree)),
         ["exact", rest @ ..] => Ok(Read {
-            found: AnyLanguage::Exact,
+            found: Spoken::Exact(Exact),
             rest,
         }),
         [other, ..] => Err(Wrong::NotALanguage(*other)),
@@ -103,8 +114,8 @@ fn table<'w, 't>(
     heap: Global,
     layout: Layout,
     words: &'w [&'t str],
-) -> Result<Read<'w, 't, Table<AnyLanguage>>, Wrong<'t>>
-    ensures said { IfOk result (λ x. SaysTable x.found words.now x.rest.now) }
+) -> Result<Read<'w, 't, Table<Spoken>>, Wrong<'t>>
+    ensures said { IfOk result (λ x. SaysTable x.found x.found.language words.now x.rest.now) }
     ensures kind { IfOk result (λ x. x.found.layout ≡ layout) }
 {
     match words {
@@ -128,13 +139,42 @@ fn table<'w, 't>(
     }
 }
 
-fn leaf<'w, 't>(heap: Global, words: &'w [&'t str]) -> Result<Read<'w, 't, Leaf>, Wrong<'t>>
+// The leaf of a table, by its language.
+fn table_leaf(table: Table<Spoken>) -> OwnedLeaf
+    ensures { result ≡ leaf_of table table.language }
+{
+    let Table {
+        layout,
+        start,
+        length,
+        function,
+        language,
+    } = table;
+    match language {
+        Spoken::Tree(language) => AnyLeaf::Tree(Table {
+            layout,
+            start,
+            length,
+            function,
+            language,
+        }),
+        Spoken::Exact(language) => AnyLeaf::Exact(Table {
+            layout,
+            start,
+            length,
+            function,
+            language,
+        }),
+    }
+}
+
+fn leaf<'w, 't>(heap: Global, words: &'w [&'t str]) -> Result<Read<'w, 't, OwnedLeaf>, Wrong<'t>>
     ensures { IfOk result (λ x. SaysLeaf x.found words.now x.rest.now) }
 {
     match words {
-        ["release", rest @ ..] => Ok(release(rest)?.map(Leaf::Release)),
-        ["lsda", rest @ ..] => Ok(table(heap, Layout::Lsda, rest)?.map(Leaf::Table)),
-        ["sjlj", rest @ ..] => Ok(table(heap, Layout::Sjlj, rest)?.map(Leaf::Table)),
+        ["release", rest @ ..] => Ok(release(rest)?.map(AnyLeaf::Release)),
+        ["lsda", rest @ ..] => Ok(table(heap, Layout::Lsda, rest)?.map(table_leaf)),
+        ["sjlj", rest @ ..] => Ok(table(heap, Layout::Sjlj, rest)?.map(table_leaf)),
         [other, ..] => Err(Wrong::NotAPersonality(*other)),
         [] => Err(Wrong::Takes(Form::Personality)),
     }
@@ -145,7 +185,7 @@ fn leaf<'w, 't>(heap: Global, words: &'w [&'t str]) -> Result<Read<'w, 't, Leaf>
 fn single<'w, 't>(
     heap: Global,
     words: &'w [&'t str],
-) -> Result<Read<'w, 't, Composed<Leaf>>, Wrong<'t>>
+) -> Result<Read<'w, 't, Composed<OwnedLeaf>>, Wrong<'t>>
     ensures { IfOk result (λ x. Says x.found words.now x.rest.now) }
 {
     Ok(leaf(heap, words)?.map(Composed::Leaf))
@@ -154,9 +194,9 @@ fn single<'w, 't>(
 // The pair of what was read first and then.
 fn both<'w, 't>(
     heap: Global,
-    first: Composed<Leaf>,
-    then: Read<'w, 't, Composed<Leaf>>,
-) -> Result<Read<'w, 't, Composed<Leaf>>, Wrong<'t>>
+    first: Composed<OwnedLeaf>,
+    then: Read<'w, 't, Composed<OwnedLeaf>>,
+) -> Result<Read<'w, 't, Composed<OwnedLeaf>>, Wrong<'t>>
     ensures { IfOk result (λ x. PairOf x.found first then.entry.found × (x.rest.now ≡ then.entry.rest.now)) }
 {
     Ok(Read {
@@ -168,8 +208,8 @@ fn both<'w, 't>(
 // The guest over what was read.
 fn hosted<'w, 't>(
     heap: Global,
-    below: Read<'w, 't, Composed<Leaf>>,
-) -> Result<Read<'w, 't, Composed<Leaf>>, Wrong<'t>>
+    below: Read<'w, 't, Composed<OwnedLeaf>>,
+) -> Result<Read<'w, 't, Composed<OwnedLeaf>>, Wrong<'t>>
     ensures { IfOk result (λ x. GuestOf x.found below.entry.found × (x.rest.now ≡ below.entry.rest.now)) }
 {
     Ok(Read {
@@ -183,7 +223,7 @@ fn hosted<'w, 't>(
 fn enclosed<'w, 't>(
     heap: Global,
     words: &'w [&'t str],
-) -> Result<Read<'w, 't, Composed<Leaf>>, Wrong<'t>>
+) -> Result<Read<'w, 't, Composed<OwnedLeaf>>, Wrong<'t>>
     ensures { IfOk result (λ x. Enclosed (Says x.found) words.now x.rest.now) }
 {
     let inside = bracket(words, "(")?;
@@ -200,7 +240,7 @@ fn enclosed<'w, 't>(
 pub fn read_plan<'w, 't>(
     heap: Global,
     words: &'w [&'t str],
-) -> Result<Read<'w, 't, Composed<Leaf>>, Wrong<'t>>
+) -> Result<Read<'w, 't, Composed<OwnedLeaf>>, Wrong<'t>>
     ensures { IfOk result (λ x. Says x.found words.now x.rest.now) }
 {
     match words {
