@@ -1,6 +1,7 @@
 -- Catches close: that the state closes them from the newest on, and the book by what is left, comes to the same.
 use Rattle.std.proofs.Common.{◌≡◌, ℕ, suc, ◌≤◌, Bool, true, false, cond, ◌||◌, eqb, ltb, List, [], ◌∷◌, ◌++◌, sym, refl, ap, ◌∙◌, append_assoc, append-nil, arith}
 use mathlib.Core.List.{map-map, map-append}
+use Rattle.std.proofs.Math.Bool.{or_assoc}
 use Rattle.std.proofs.lemmas.Bool.{cond_both, eqb-true, ltb-true, ltb-false, lt-ltb, le-ltb, or_parts}
 use Rattle.calls.specs.declared.exception.Catch.{Catch}
 use Rattle.calls.specs.declared.exception.Exception.{Exception}
@@ -13,7 +14,7 @@ use Rattle.rules.specs.State.{State, without, raisers, unwinding, caught, releas
 use Rattle.rules.specs.Walk.{close}
 use Rattle.rules.proofs.Held.{names, names_without, raisers_without, all_without}
 use Rattle.rules.proofs.Inv.{mk, bare, bare_catches}
-use Rattle.rules.proofs.Lists.{or_assoc, or_front, has_append, has_both, has_cons, has_here, has_skip, has_right}
+use Rattle.rules.proofs.Lists.{or_front, has_append, has_both, has_cons, has_here, has_skip, has_right}
 use Rattle.rules.proofs.Waits.{W, w_same, w_release}
 
 -- who loses the last holder

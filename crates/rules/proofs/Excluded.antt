@@ -1,5 +1,5 @@
 -- What the promise shuts out.
-use Rattle.std.proofs.Common.{◌≡◌, ℕ, true, false, List, [], ◌∷◌, ◌++◌, length, drop, sym, refl, ap, ◌∙◌, subst, inl, inr, append-nil, arith}
+use Rattle.std.proofs.Common.{◌≡◌, ℕ, true, false, List, [], ◌∷◌, ◌++◌, length, sym, refl, ap, ◌∙◌, subst, inl, inr, append-nil, arith}
 use Rattle.std.proofs.lemmas.Bool.{false≢true, true≢false, both_ways}
 use Rattle.calls.specs.declared.answer.Answer.{Answer}
 use Rattle.calls.specs.declared.answer.Answer.TheVariants.{Done, Made, Landed, Stopped, Begun, Ended, Collected, Refused}
@@ -82,50 +82,26 @@ answers_in_turn v calls as' a s =
 
 -- in sample runs: the book of the run is computed, and a sentence of the promise is false of it
 
--- what tells two answers apart: the frame of a landing, one more than any here for no landing; the serial of a collect
-abbrev frame_of : Answer → ℕ
-frame_of (Landed l) = l.frame
-frame_of Done = 9
-frame_of (Made x) = 9
-frame_of (Stopped x) = 9
-frame_of (Begun n) = 9
-frame_of (Ended x n w) = 9
-frame_of (Collected x) = 9
-frame_of (Refused r) = 9
-
-abbrev first_frame : List Answer → ℕ
-first_frame [] = 9
-first_frame (a ∷ rest) = frame_of a
-
-abbrev serial_of : Answer → ℕ
-serial_of (Collected x) = x
-serial_of Done = 0
-serial_of (Made x) = 0
-serial_of (Landed l) = 0
-serial_of (Stopped x) = 0
-serial_of (Begun n) = 0
-serial_of (Ended x n w) = 0
-serial_of (Refused r) = 0
-
-apart : (m n : ℕ) → m ≡ n → (m ≡ n → ⊥) → ⊥
-apart m n e k = k e
-
 pub shut_out : ShutOut
 unfolding lost drop_all lowest below above known add_answer account_of other_accounts keep_of note written asked cleanups handlers above_handler above_kept has
 shut_out =
     record {
-      straight = λ s p. apart 1 3 (ap length p.ended.0.all) (λ e. omega arith);
-      from_the_first = λ s p. apart 2 3 (ap length p.ended.0.all) (λ e. omega arith);
-      at_nothing = λ s p. apart 1 2 (ap (λ l. first_frame (drop 1 l)) p.running.0.firsts.1) (λ e. omega arith);
-      no_landing = λ s p. apart 3 9 (ap first_frame p.running.0.firsts.1) (λ e. omega arith);
+      straight = λ s p. cc p.ended.0.all;
+      from_the_first = λ s p. cc p.ended.0.all;
+      at_nothing = λ s p. let e : 1 ≡ 2 = second _ _ _ _ _ _ p.running.0.firsts.1 in omega arith;
+      no_landing = λ s p. cc p.running.0.firsts.1;
       no_handler = λ s p. false≢true p.running.0.to_come;
-      stops_first = λ s p. apart 1 2 (ap length p.ended.0.all) (λ e. omega arith);
+      stops_first = λ s p. cc p.ended.0.all;
       refuses = λ s p. true≢false (ap refused p.collects.1.1.0);
-      out_of_turn = λ s p. apart 1 2 (ap serial_of p.collects.1.1.1.1.0) (λ e. omega arith);
+      out_of_turn = λ s p. cc p.collects.1.1.1.1.0;
       forgotten = λ s p. true≢false (ap refused p.collects.1.1.1.1.1.1.1.0);
       not_waiting = λ s n p. both_ways (has 1 s.waiting) n ((p.waits 1 (refl, refl)).1 refl);
       raiser_forgotten = λ s n p. both_ways (has 1 (raisers s.held)) n (p.same.raisers 1);
-      another_begins = λ s p. elim p.apt.1.1.1.0 [ inl e ↦ false≢true e | inr e ↦ apart 1 7 e.0 (λ e. omega arith) ];
+      another_begins = λ s p. elim p.apt.1.1.1.0 [ inl e ↦ false≢true e | inr e ↦ cc e.0 ];
       collected_unwinding = λ s p. false≢true (ap refused p.collects.1.1.1.1.1.1.1.1.0);
       waiting_unwinding = λ s n p. true≢false ((p.waits 1 (refl, refl)).0 n);
     }
+  where
+    -- equal lists with a landing second have it in one frame
+    second : (a b : Answer) (l m : Landing) (as' bs : List Answer) → a ∷ Landed l ∷ as' ≡ b ∷ Landed m ∷ bs → l.frame ≡ m.frame
+    second a b l m as' bs e = let f : l ≡ m = cc in ap (λ (l : Landing). l.frame) f

@@ -1,11 +1,12 @@
 -- The table of held exceptions: serials, raisers, and the record of one exception.
-use Rattle.std.proofs.Common.{◌≡◌, ℕ, suc, Bool, true, false, cond, not, ◌&&◌, ◌||◌, eqb, List, [], ◌∷◌, ◌++◌, map, length, Some, sym, refl, ap, ◌∙◌, subst, arith}
+use Rattle.std.proofs.Common.{◌≡◌, ℕ, suc, Bool, true, false, cond, not, ◌&&◌, ◌||◌, eqb, List, [], ◌∷◌, ◌++◌, map, length, Some, sym, refl, ap, ◌∙◌, subst}
+use Rattle.std.proofs.Math.Bool.{or-false, and-true, and-false}
 use Rattle.std.proofs.lemmas.Bool.{cond_both, eqb-true, eqb-false, eq-eqb, or_parts, or_right, false≢true}
 use Rattle.calls.specs.declared.exception.HeldException.{HeldException}
 use Rattle.rules.specs.Book.{drop_all}
 use Rattle.rules.specs.Lists.{has, Distinct, All}
 use Rattle.rules.specs.State.{find, without, own, raisers}
-use Rattle.rules.proofs.Lists.{has_append, has_here, has_skip, tell_apart, distinct_drop, distinct_out, distinct_in, and_true, and_false}
+use Rattle.rules.proofs.Lists.{has_append, has_here, has_skip, tell_apart, distinct_drop, distinct_out, distinct_in}
 
 -- the serials of all records
 abbrev pub names : List HeldException → List ℕ
@@ -23,7 +24,7 @@ has_less x y (z ∷ K) d = go (eqb x z) refl (has_less x y K d.1)
   where
     here : (c : Bool) → eqb y z ≡ c → has y K ≡ ((c || has y K) && not c)
     here true ec = rw (eqb-true y z ec) d.0
-    here false ec = sym (and_true (has y K))
+    here false ec = sym (and-true (has y K))
 
     there : (c e : Bool) → eqb y z ≡ c → eqb y x ≡ e → (x ≡ z → ⊥) → has y (less x K) ≡ (has y K && not e) → (c || has y (less x K)) ≡ ((c || has y K) && not e)
     there true true ec ee ne ih = absurd (ne (sym (eqb-true y x ee) ∙ eqb-true y z ec))
@@ -74,11 +75,7 @@ distinct_less_left x (z ∷ a) b d =
 -- x goes over from the one to the other
 pub distinct_turn : (x : ℕ) (a b : List ℕ) → Distinct (a ++ b) → has x b ≡ false → Distinct (less x a ++ (x ∷ b))
 distinct_turn x a b d e =
-    distinct_in x (less x a) b (rw (has_append x (less x a) b, has_less x x a (distinct_front a b d), eq-eqb x x refl, e) (none (has x a))) (distinct_less_left x a b d)
-  where
-    none : (c : Bool) → ((c && false) || false) ≡ false
-    none true = refl
-    none false = refl
+    distinct_in x (less x a) b (rw (has_append x (less x a) b, has_less x x a (distinct_front a b d), eq-eqb x x refl, e) (or-false (has x a && false) ∙ and-false (has x a))) (distinct_less_left x a b d)
 
 -- without
 
@@ -209,7 +206,7 @@ has_drop_all y x [] = refl
 has_drop_all y x (z ∷ R) = go (eqb x z) refl (has_drop_all y x R)
   where
     here : (c : Bool) → eqb y z ≡ c → (has y R && not c) ≡ ((c || has y R) && not c)
-    here true ec = and_false (has y R)
+    here true ec = and-false (has y R)
     here false ec = refl
 
     there : (c e : Bool) → eqb y z ≡ c → eqb y x ≡ e → (x ≡ z → ⊥) → (c || (has y R && not e)) ≡ ((c || has y R) && not e)
@@ -231,8 +228,8 @@ pub owners_disown : (R : List ℕ) (x : ℕ) (hs : List HeldException) → ((y :
 owners_disown R x hs e d y = has_drop_all y x R ∙ go (eqb y x) refl
   where
     go : (c : Bool) → eqb y x ≡ c → (has y R && not c) ≡ has y (raisers (own false x hs))
-    go true ec = and_false (has y R) ∙ sym (rw (eqb-true y x ec) (unraised_own x hs d))
-    go false ec = and_true (has y R) ∙ (e y ∙ sym (raisers_own y false x hs ec))
+    go true ec = and-false (has y R) ∙ sym (rw (eqb-true y x ec) (unraised_own x hs d))
+    go false ec = and-true (has y R) ∙ (e y ∙ sym (raisers_own y false x hs ec))
 
 pub owners_own : (R : List ℕ) (x : ℕ) (hs : List HeldException) → ((y : ℕ) → has y R ≡ has y (raisers hs)) → has x (names hs) ≡ true
     → (y : ℕ) → has y (x ∷ R) ≡ has y (raisers (own true x hs))
@@ -252,7 +249,7 @@ all_own P keep b x (h ∷ hs) a =
 
 pub find_serial : (x : ℕ) (hs : List HeldException) (h : HeldException) → find x hs ≡ Some h → h.exception.serial ≡ x
 unfolding find
-find_serial x [] h f = let z : ◌≡◌ {A = ℕ} 0 1 = cc in absurd (omega arith)
+find_serial x [] h f = absurd cc
 find_serial x (d ∷ hs) h f = go (eqb x d.exception.serial) refl (find_serial x hs h) f
   where
     go : (b : Bool) → eqb x d.exception.serial ≡ b → (find x hs ≡ Some h → h.exception.serial ≡ x) → cond b (Some d) (find x hs) ≡ Some h → h.exception.serial ≡ x
@@ -261,7 +258,7 @@ find_serial x (d ∷ hs) h f = go (eqb x d.exception.serial) refl (find_serial x
 
 pub find_owned : (x : ℕ) (hs : List HeldException) (h : HeldException) → find x hs ≡ Some h → h.owned ≡ true → has h.exception.serial (raisers hs) ≡ true
 unfolding find raisers has
-find_owned x [] h f r = let z : ◌≡◌ {A = ℕ} 0 1 = cc in absurd (omega arith)
+find_owned x [] h f r = absurd cc
 find_owned x (d ∷ hs) h f r = go (eqb x d.exception.serial) (find_owned x hs h) f
   where
     later : (b : Bool) → has h.exception.serial (raisers hs) ≡ true → has h.exception.serial (cond b (d.exception.serial ∷ raisers hs) (raisers hs)) ≡ true
@@ -275,7 +272,7 @@ find_owned x (d ∷ hs) h f r = go (eqb x d.exception.serial) (find_owned x hs h
 
 pub find_all : (P : HeldException → Type 0) (x : ℕ) (hs : List HeldException) (h : HeldException) → find x hs ≡ Some h → All P hs → P h
 unfolding find
-find_all P x [] h f a = let z : ◌≡◌ {A = ℕ} 0 1 = cc in absurd (omega arith)
+find_all P x [] h f a = absurd cc
 find_all P x (d ∷ hs) h f a = go (eqb x d.exception.serial) (λ e. find_all P x hs h e a.1) f
   where
     go : (b : Bool) → (find x hs ≡ Some h → P h) → cond b (Some d) (find x hs) ≡ Some h → P h

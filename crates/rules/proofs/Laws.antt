@@ -1,6 +1,6 @@
 -- The smaller laws: refusals leave the state, the handler count, the order of catches.
-use Rattle.std.proofs.Common.{◌≡◌, ℕ, suc, ◌+◌, Bool, true, false, cond, not, ◌&&◌, ◌||◌, eqb, ltb, ◌⊎◌, List, [], ◌∷◌, map, length, ℤ, Some, None, Ok, Err, Option, Result, sym, refl, ap, ◌∙◌, subst, inl, inr, arith}
-use Rattle.std.proofs.lemmas.Bool.{cond_both, eqb-true, eqb-false, eq-eqb, false≢true, and_parts, or_cases, or_left, or_right, not-true}
+use Rattle.std.proofs.Common.{◌≡◌, ℕ, suc, ◌+◌, Bool, true, false, cond, not, ◌&&◌, ◌||◌, eqb, ltb, ◌⊎◌, List, [], ◌∷◌, map, length, ℤ, Some, None, Ok, Err, Option, Result, sym, refl, ap, ◌∙◌, subst, inl, inr}
+use Rattle.std.proofs.lemmas.Bool.{false_from_ne_true, cond_both, eqb-true, eqb-false, eq-eqb, false≢true, and_parts, or_cases, or_left, or_right, not-true}
 use Rattle.personality.specs.declared.verdict.Verdict.{Verdict}
 use Rattle.calls.specs.declared.answer.Answer.TheVariants.{Refused, Begun, Ended}
 use Rattle.calls.specs.declared.answer.Refusal.{Refusal}
@@ -21,7 +21,7 @@ use Rattle.rules.specs.Search.{Verdicts, handler_for, stop_for}
 use Rattle.rules.specs.State.{State, Outcome, find, unwinding, holdings, release}
 use Rattle.rules.specs.Walk.{arrive, gone, cleanup_pad, reached, walk, walk_from}
 use Rattle.rules.proofs.Inv.{mk}
-use Rattle.rules.proofs.Lists.{given_both, false_unless, has_here, has_later}
+use Rattle.rules.proofs.Lists.{given_both, has_here, has_later}
 use Rattle.rules.proofs.Runs.{runs_good}
 
 -- refusals
@@ -170,7 +170,7 @@ counts x s =
       k = begun_catches x s.catches;
       tally = tally x s.catches;
       minus = λ p. rw (either p);
-      plus = λ nu nb. rw (false_unless (has x (unwinding s.frames)) (λ t. nu (has_unwinds x s.frames t)), false_unless (has_unbegun x s.catches) (λ t. nb (has_unbegun_in x s.catches t)));
+      plus = λ nu nb. rw (false_from_ne_true (has x (unwinding s.frames)) (λ t. nu (has_unwinds x s.frames t)), false_from_ne_true (has_unbegun x s.catches) (λ t. nb (has_unbegun_in x s.catches t)));
     }
   where
     either : Unwinds x s ⊎ Unbegun x s → (has x (unwinding s.frames) || has_unbegun x s.catches) ≡ true
@@ -190,10 +190,10 @@ abbrev EndedRight : Outcome → Type 0
 EndedRight o = (x : ℕ) (n : ℤ) (w : Bool) → o.answer ≡ Ended x n w → Counts x o.after n
 
 not_begun_answer : (x : ℕ) (r : Refusal) (s : State) → BegunRight x (record { answer = Refused r; after = s })
-not_begun_answer x r s n e = let z : ◌≡◌ {A = ℕ} 0 1 = cc in absurd (omega arith)
+not_begun_answer x r s n e = absurd cc
 
 not_ended_answer : (r : Refusal) (s : State) → EndedRight (record { answer = Refused r; after = s })
-not_ended_answer r s x n w e = let z : ◌≡◌ {A = ℕ} 0 1 = cc in absurd (omega arith)
+not_ended_answer r s x n w e = absurd cc
 
 begin_counts : (fs : List Activation) (hs : List HeldException) (cs : List Catch) (q : List ℕ) (n x : ℕ) → BegunRight x (begin x (mk fs hs cs q n))
 begin_counts fs hs [] q n x = not_begun_answer x _ _

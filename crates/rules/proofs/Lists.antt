@@ -1,5 +1,6 @@
 -- Laws of tests, membership and lists without repetition.
-use Rattle.std.proofs.Common.{◌≡◌, ℕ, Bool, true, false, ◌&&◌, ◌||◌, eqb, List, [], ◌∷◌, ◌++◌, Some, None, Option, sym, refl, ◌∙◌}
+use Rattle.std.proofs.Common.{◌≡◌, ℕ, Bool, true, false, ◌||◌, eqb, List, [], ◌∷◌, ◌++◌, Some, None, Option, sym, refl, ◌∙◌}
+use Rattle.std.proofs.Math.Bool.{or_assoc, or_comm, or-true}
 use Rattle.std.proofs.lemmas.Bool.{eqb-true, eqb-false, eq-eqb, ne_eqb, or_parts, or_right, false≢true}
 use Rattle.rules.specs.Lists.{given, has, Distinct, All}
 
@@ -7,34 +8,10 @@ pub given_both : {A B : Type 0} (o : Option A) (b : B) (f : A → B) (P : B → 
 given_both None b f P n k = n refl
 given_both (Some a) b f P n k = k a refl
 
-pub false_unless : (b : Bool) → (b ≡ true → ⊥) → b ≡ false
-false_unless true k = absurd (k refl)
-false_unless false k = refl
-
-pub or_assoc : (p q r : Bool) → ((p || q) || r) ≡ (p || (q || r))
-or_assoc true q r = refl
-or_assoc false q r = refl
-
 pub or_front : (p q r : Bool) → (p || (q || r)) ≡ (q || (p || r))
 or_front true true r = refl
 or_front true false r = refl
 or_front false q r = refl
-
-pub or_true : (a : Bool) → (a || true) ≡ true
-or_true true = refl
-or_true false = refl
-
-pub or_false : (a : Bool) → (a || false) ≡ a
-or_false true = refl
-or_false false = refl
-
-pub and_false : (a : Bool) → (a && false) ≡ false
-and_false true = refl
-and_false false = refl
-
-pub and_true : (a : Bool) → (a && true) ≡ a
-and_true true = refl
-and_true false = refl
 
 pub has_append : (y : ℕ) (a b : List ℕ) → has y (a ++ b) ≡ (has y a || has y b)
 unfolding has
@@ -66,17 +43,11 @@ pub has_left : (x : ℕ) (a b : List ℕ) → has x a ≡ true → has x (a ++ b
 has_left x a b e = rw (has_append x a b, e)
 
 pub has_right : (x : ℕ) (a b : List ℕ) → has x b ≡ true → has x (a ++ b) ≡ true
-has_right x a b e = rw (has_append x a b, e) (or_true (has x a))
+has_right x a b e = rw (has_append x a b, e) (or-true (has x a))
 
 -- membership in a list that is put together in another order
 pub has_swap : (y : ℕ) (a b : List ℕ) → has y (a ++ b) ≡ has y (b ++ a)
-has_swap y a b = rw (has_append y a b, has_append y b a) (or_swap (has y a) (has y b))
-  where
-    or_swap : (p q : Bool) → (p || q) ≡ (q || p)
-    or_swap true true = refl
-    or_swap true false = refl
-    or_swap false true = refl
-    or_swap false false = refl
+has_swap y a b = rw (has_append y a b, has_append y b a) (or_comm (has y a) (has y b))
 
 pub has_both : (y : ℕ) (a a' b b' : List ℕ) → has y a ≡ has y a' → has y b ≡ has y b' → has y (a ++ b) ≡ has y (a' ++ b')
 has_both y a a' b b' e f = rw (has_append y a b, has_append y a' b', e, f)

@@ -99,7 +99,7 @@ catch_has n c (d ∷ cs) (inr i) e = has_later n d.frame (map (λ c. c.frame) cs
 
 find_record : (x : ℕ) (hs : List HeldException) (h : HeldException) → find x hs ≡ Some h → RecordOf x h hs
 unfolding find
-find_record x [] h e = let z : ◌≡◌ {A = ℕ} 0 1 = cc in omega arith
+find_record x [] h e = cc
 find_record x (g ∷ hs) h e = go (eqb x g.exception.serial) refl (find_record x hs h) e
   where
     go : (b : Bool) → eqb x g.exception.serial ≡ b → (find x hs ≡ Some h → RecordOf x h hs) → cond b (Some g) (find x hs) ≡ Some h → RecordOf x h (g ∷ hs)
@@ -118,7 +118,7 @@ find_none x [] h e i es = i
 find_none x (g ∷ hs) h e i es = go (eqb x g.exception.serial) refl (find_none x hs h) e i
   where
     go : (b : Bool) → eqb x g.exception.serial ≡ b → (find x hs ≡ None → In h hs → h.exception.serial ≡ x → ⊥) → cond b (Some g) (find x hs) ≡ None → In h (g ∷ hs) → ⊥
-    go true eb ih e i = let z : ◌≡◌ {A = ℕ} 0 1 = cc in omega arith
+    go true eb ih e i = cc
     go false eb ih e (inl p) = eqb-false _ _ eb (sym es ∙ ap (λ (h : HeldException). h.exception.serial) p)
     go false eb ih e (inr i) = ih e i es
 
@@ -141,7 +141,7 @@ Settled C (Err n) = C n × ((q : Refusal) → C q → refusal_number n ≤ refus
 
 -- one that is refused exactly with its cause
 settled : (C : Refusal → Type 0) (w t : Result Goal Refusal) → t ≡ w → ((r : Refusal) → t ≡ Err r → C r) → ((r : Refusal) → C r → t ≡ Err r) → Settled C w
-settled C (Ok g) t e to from = λ r c. let f = from r c in let z : ◌≡◌ {A = ℕ} 0 1 = cc in omega arith
+settled C (Ok g) t e to from = λ r c. let f = from r c in cc
 settled C (Err n) t e to from = (to n e, λ q c. let f = from q c in let p : n ≡ q = cc in rw p (omega arith))
 
 search_passes : (ask : Frame → Verdict) (above rest : List Activation) → All (Passes ask) above → search_down ask (above ++ rest) ≡ search_down ask rest
@@ -209,7 +209,7 @@ search_cause ask (f ∷ fs) r e = go (ask f.frame) refl f.cleanup refl (search_c
     go Nothing ew (Some u) eo ih e = inr (inr (inl (cc, ([], f, length fs, u, here, tt, rw ew tt, eo))))
     go (Cleanup pad) ew None eo ih e = cause_below ask f fs r (rw ew tt, eo) (ih e)
     go (Cleanup pad) ew (Some u) eo ih e = inr (inr (inl (cc, ([], f, length fs, u, here, tt, rw ew tt, eo))))
-    go (Handler pad selector) ew o eo ih e = let z : ◌≡◌ {A = ℕ} 0 1 = cc in absurd (omega arith)
+    go (Handler pad selector) ew o eo ih e = absurd cc
     go Terminate ew o eo ih e = inl (length fs, cc, ([], f, here, tt, ew))
     go (Broken fault) ew o eo ih e = inr (inl (length fs, fault, cc, ([], f, here, tt, ew)))
 
@@ -283,7 +283,7 @@ cause_asks ask k fs r p =
 
 asks_cause : (ask : Frame → Verdict) (k : ℕ) (fs : List Activation) (r : Refusal) → ask_down_to ask k fs ≡ Err r → Asked ask k fs r
 unfolding ask_down_to
-asks_cause ask k [] r e = let z : ◌≡◌ {A = ℕ} 0 1 = cc in absurd (omega arith)
+asks_cause ask k [] r e = absurd cc
 asks_cause ask k (f ∷ fs) r e = go (ltb (length fs) k) refl (ask f.frame) refl (asks_cause ask k fs r) e
   where
     further : NotBroken (ask f.frame) → Asked ask k fs r → Asked ask k (f ∷ fs) r
@@ -291,7 +291,7 @@ asks_cause ask k (f ∷ fs) r e = go (ltb (length fs) k) refl (ask f.frame) refl
 
     go : (b : Bool) → ltb (length fs) k ≡ b → (w : Verdict) → ask f.frame ≡ w → (ask_down_to ask k fs ≡ Err r → Asked ask k fs r)
         → cond b (Ok (goal.Keep k)) (unless_broken w (length fs) (ask_down_to ask k fs)) ≡ Err r → Asked ask k (f ∷ fs) r
-    go true eb w ew ih e = let z : ◌≡◌ {A = ℕ} 0 1 = cc in absurd (omega arith)
+    go true eb w ew ih e = absurd cc
     go false eb Nothing ew ih e = further (rw ew tt) (ih e)
     go false eb (Cleanup pad) ew ih e = further (rw ew tt) (ih e)
     go false eb (Handler pad selector) ew ih e = further (rw ew tt) (ih e)
@@ -444,7 +444,7 @@ leave_right v (f ∷ fs) hs cs q n =
     (λ r. elim [
       | inl p ↦ framed p.1
       | inr (inl p) ↦ closed t p.1 p.2 p.3
-      | inr (inr p) ↦ let k = p.4.1 in let e' = p.5 in let z : ◌≡◌ {A = ℕ} 0 1 = cc in omega arith
+      | inr (inr p) ↦ let k = p.4.1 in let e' = p.5 in cc
     ]))
     (λ u e. refusal C CleanupRuns (inr (inr (refl, f, length fs, u, (fs, refl, refl), e)))
     (λ q. elim [ inl p ↦ absurd (framed p.1) | inr (inl p) ↦ absurd (closed t p.1 p.2 p.3) | inr (inr p) ↦ numbered CleanupRuns CleanupRuns q (omega arith) p.0 ])))
@@ -453,7 +453,7 @@ leave_right v (f ∷ fs) hs cs q n =
     C = Cause v (mk (f ∷ fs) hs cs q n) Leave
 
     framed : ◌≡◌ {A = List Activation} (f ∷ fs) [] → ⊥
-    framed e = let z : ◌≡◌ {A = ℕ} 0 1 = cc in omega arith
+    framed e = cc
 
     closed : has (length fs) (map (λ c. c.frame) cs) ≡ false → (c : Catch) → In c cs → Top (f ∷ fs) c.frame → ⊥
     closed t c i top = both_ways _ t (catch_has (length fs) c cs i (top_is f fs c.frame top))
@@ -462,14 +462,14 @@ move_right : (v : Verdicts) (place : ℕ) (fs : List Activation) (hs : List Held
     → Right (Cause v (mk fs hs cs q n) (Move place)) (move place (mk fs hs cs q n)).answer
 move_right v place [] hs cs q n = refusal (Cause v (mk [] hs cs q n) (Move place)) NoFrame (refl, refl) (λ q p. numbered NoFrame NoFrame q (omega arith) p.0)
 move_right v place (f ∷ fs) hs cs q n =
-    accept (Cause v (mk (f ∷ fs) hs cs q n) (Move place)) _ refl (λ r p. let e = p.1 in let z : ◌≡◌ {A = ℕ} 0 1 = cc in omega arith)
+    accept (Cause v (mk (f ∷ fs) hs cs q n) (Move place)) _ refl (λ r p. let e = p.1 in cc)
 
 -- where no cleanup runs in the top frame
 resume_below : (x : ℕ) (f : Activation) (fs : List Activation) → NoCleanup f → IsNotInnermost x (f ∷ fs)
 resume_below x f fs e = go (fence fs) (fence_found fs)
   where
     go : (o : Option ℕ) → Found fs o → IsNotInnermost x (f ∷ fs)
-    go None a = inl (λ u n m es. let p = innermost_fence (f ∷ fs) u n m in let k = no_fence (f ∷ fs) (e, a) in let z : ◌≡◌ {A = ℕ} 0 1 = cc in omega arith)
+    go None a = inl (λ u n m es. let p = innermost_fence (f ∷ fs) u n m in let k = no_fence (f ∷ fs) (e, a) in cc)
     go (Some n) m =
         let i = m.1 in
         inr (
@@ -488,8 +488,8 @@ resume_right v x [] hs cs q n =
     refusal (Cause v (mk [] hs cs q n) (Resume x)) NotInnermost (refl, inl (λ u n m e. none m.0 m.1 m.2.0 m.2.1)) (λ q p. numbered NotInnermost NotInnermost q (omega arith) p.0)
   where
     none : (above : List Activation) (f : Activation) (below : List Activation) → [] ≡ above ++ (f ∷ below) → ⊥
-    none [] f below e = let z : ◌≡◌ {A = ℕ} 0 1 = cc in omega arith
-    none (g ∷ above) f below e = let z : ◌≡◌ {A = ℕ} 0 1 = cc in omega arith
+    none [] f below e = cc
+    none (g ∷ above) f below e = cc
 resume_right v x (f ∷ fs) hs cs q n =
     given_both f.cleanup _ _ (RightOutcome C)
     (λ e. not_resumed (resume_below x f fs e))
@@ -509,28 +509,25 @@ resume_right v x (f ∷ fs) hs cs q n =
 
     at_top : (u : Unwinding) → f.cleanup ≡ Some u → (above : List Activation) (g : Activation) (m : ℕ) → Stands (f ∷ fs) above g m → All NoCleanup above → Top (f ∷ fs) m
     at_top u e [] g m p a = (g, p)
-    at_top u e (h ∷ above) g m p a = let k = p.1 in let e' = a.0 in let z : ◌≡◌ {A = ℕ} 0 1 = cc in absurd (omega arith)
+    at_top u e (h ∷ above) g m p a = let k = p.1 in let e' = a.0 in absurd cc
 
     same_cleanup : (u : Unwinding) → f.cleanup ≡ Some u → (above : List Activation) (g : Activation) (w : Unwinding) (m : ℕ) → Stands (f ∷ fs) above g m → All NoCleanup above → g.cleanup ≡ Some w → w ≡ u
     same_cleanup u e [] g w m p a ew = let k = p.1 in cc
-    same_cleanup u e (h ∷ above) g w m p a ew = let k = p.1 in let e' = a.0 in let z : ◌≡◌ {A = ℕ} 0 1 = cc in absurd (omega arith)
+    same_cleanup u e (h ∷ above) g w m p a ew = let k = p.1 in let e' = a.0 in absurd cc
 
 -- the calls on catches
 
-newest_is : (c : Catch) (cs : List Catch) (d : Catch) (rest : List Catch) → c ∷ cs ≡ d ∷ rest → c ≡ d
-newest_is c cs d rest e = cc
-
 -- the newest catch is begun
 begun_newest : (c : Catch) (s : State) → Newest c s → c.begun ≡ true → NoBegun s → ⊥
-begun_newest c s w t (inl e) = let k = w.1 in let z : ◌≡◌ {A = ℕ} 0 1 = cc in omega arith
+begun_newest c s w t (inl e) = let k = w.1 in cc
 begun_newest c s w t (inr p) =
-    let k = newest_is c w.0 p.0 p.1.0 (sym w.1 ∙ p.1.1) in
+    let k : c ≡ p.0 = cc (w.1, p.1.1) in
     both_ways c.begun (rw k p.2) t
 
 begin_right : (v : Verdicts) (x : ℕ) (fs : List Activation) (hs : List HeldException) (cs : List Catch) (q : List ℕ) (n : ℕ)
     → Right (Cause v (mk fs hs cs q n) (Begin x)) (begin x (mk fs hs cs q n)).answer
 begin_right v x fs hs [] q n =
-    refusal (Cause v (mk fs hs [] q n) (Begin x)) NoUnbegunCatch (refl, λ c w es eb. let k = w.1 in let z : ◌≡◌ {A = ℕ} 0 1 = cc in omega arith)
+    refusal (Cause v (mk fs hs [] q n) (Begin x)) NoUnbegunCatch (refl, λ c w es eb. let k = w.1 in cc)
     (λ q p. numbered NoUnbegunCatch NoUnbegunCatch q (omega arith) p.0)
 begin_right v x fs hs (c ∷ cs) q n =
     cond_both (eqb x c.exception.serial && not c.begun) _ _ (RightOutcome C)
@@ -538,7 +535,7 @@ begin_right v x fs hs (c ∷ cs) q n =
     accept C _ refl (λ r p. p.1 c (cs, refl) (sym (eqb-true _ _ ts.0)) (not-true c.begun ts.1)))
     (λ t. refusal C NoUnbegunCatch (
       refl,
-      λ d w es eb. let k = newest_is c cs d w.0 w.1 in
+      λ d w es eb. let k : c ≡ d = cc w.1 in
           let a : eqb x c.exception.serial ≡ true = rw k (eq-eqb x d.exception.serial (sym es)) in
           let b : not c.begun ≡ true = rw (k, eb) in
           both_ways _ t (and_from _ _ a b),
@@ -558,7 +555,7 @@ end_right v fs hs (c ∷ cs) q n =
     (λ e. accept C _ refl
     (λ r. elim [
       | inl p ↦ begun_newest c s (cs, refl) t p.1
-      | inr p ↦ p.3 (subst (λ (d : Catch). Top fs d.frame) (newest_is c cs p.1 p.2.0 p.2.1) (top fs (eqb-true _ _ e)))
+      | inr p ↦ let k : c ≡ p.1 = cc p.2.1 in p.3 (subst (λ (d : Catch). Top fs d.frame) k (top fs (eqb-true _ _ e)))
     ]))
     (λ e. refusal C CatchBelowTop (inr (refl, c, (cs, refl), λ w. eqb-false _ _ e (number fs w)))
     (λ q. elim [ inl p ↦ absurd (begun_newest c s (cs, refl) t p.1) | inr p ↦ numbered CatchBelowTop CatchBelowTop q (omega arith) p.0 ])))
@@ -576,7 +573,7 @@ end_right v fs hs (c ∷ cs) q n =
     top (f ∷ fs) e = (f, (fs, refl, omega arith))
 
     number : (fs : List Activation) → Top fs c.frame → suc c.frame ≡ length fs
-    number [] w = let k = w.1.1 in let z : ◌≡◌ {A = ℕ} 0 1 = cc in absurd (omega arith)
+    number [] w = let k = w.1.1 in absurd cc
     number (f ∷ fs) w = ap suc (top_is f fs c.frame w)
 
 no_begun_right : (v : Verdicts) (s : State) → NoBegun s → Right (Cause v s Rethrow) (Refused NoBegunCatch)
@@ -604,13 +601,13 @@ rethrow_right v fs hs (c ∷ cs) q n =
     (λ u. right_as D C _ (λ r d. inr (inr d))
     (λ r. elim [
       | inl p ↦ absurd (begun_newest c s (cs, refl) t p.1)
-      | inr (inl p) ↦ let k = newest_is c cs p.1 p.2.0 p.2.1 in
+      | inr (inl p) ↦ let k : c ≡ p.1 = cc p.2.1 in
           let w = p.3 in
           absurd (both_ways _ u (unwinds_has c.exception.serial w.0 w.1 fs w.2 w.3 (w.4 ∙ ap (λ (c : Catch). c.exception.serial) (sym k))))
       | inr (inr d) ↦ d
     ])
     (set_off_right v c.exception (handler_for v c.exception s) s D
-    (handler_settled v c.exception s E (λ r k. (c, (cs, refl), k)) (λ r p. let k = newest_is c cs p.0 p.1.0 p.1.1 in subst (λ (d : Catch). SearchCause (asks v d.exception false) fs r) (sym k) p.2)))))
+    (handler_settled v c.exception s E (λ r k. (c, (cs, refl), k)) (λ r p. let k : c ≡ p.0 = cc p.1.1 in subst (λ (d : Catch). SearchCause (asks v d.exception false) fs r) (sym k) p.2)))))
     (λ t. no_begun_right v s (inr (c, (cs, refl), t)))
   where
     s : State
@@ -627,7 +624,7 @@ rethrow_right v fs hs (c ∷ cs) q n =
 
 collect_right : (v : Verdicts) (fs : List Activation) (hs : List HeldException) (cs : List Catch) (q : List ℕ) (n : ℕ) → Right (Cause v (mk fs hs cs q n) Collect) (collect (mk fs hs cs q n)).answer
 collect_right v fs hs cs [] n = refusal (Cause v (mk fs hs cs [] n) Collect) NothingWaits (refl, refl) (λ q p. numbered NothingWaits NothingWaits q (omega arith) p.0)
-collect_right v fs hs cs (x ∷ q) n = accept (Cause v (mk fs hs cs (x ∷ q) n) Collect) _ refl (λ r p. let e = p.1 in let z : ◌≡◌ {A = ℕ} 0 1 = cc in omega arith)
+collect_right v fs hs cs (x ∷ q) n = accept (Cause v (mk fs hs cs (x ∷ q) n) Collect) _ refl (λ r p. let e = p.1 in cc)
 
 make_right : (v : Verdicts) (class thrown : ℕ) (s : State) → Right (Cause v s (Make class thrown)) (make class thrown s).answer
 make_right v class thrown s =

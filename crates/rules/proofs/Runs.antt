@@ -1,6 +1,7 @@
 -- The promise: every call keeps the invariant, so every run does, and each sentence follows from it.
-use Rattle.std.proofs.Common.{◌≡◌, ℕ, suc, ◌+◌, Bool, true, false, not, ◌&&◌, ◌||◌, eqb, ltb, ◌≢◌, ◌⊎◌, ◌↔◌, List, [], ◌∷◌, ◌++◌, map, length, Some, None, Option, sym, refl, ap, ◌∙◌, subst, inl, inr, arith}
-use Rattle.std.proofs.lemmas.Bool.{cond_both, false≢true, both_ways, eqb-true, and_parts}
+use Rattle.std.proofs.Common.{◌≡◌, ℕ, suc, ◌+◌, true, false, not, ◌&&◌, eqb, ltb, ◌⊎◌, ◌↔◌, List, [], ◌∷◌, ◌++◌, map, length, Some, None, Option, sym, refl, ap, ◌∙◌, subst, inl, inr, arith}
+use Rattle.std.proofs.Math.Bool.{or-false}
+use Rattle.std.proofs.lemmas.Bool.{false_from_ne_true, cond_both, false≢true, eqb-true, and_parts}
 use Rattle.personality.specs.declared.verdict.Verdict.{Verdict}
 use Rattle.calls.specs.declared.answer.Answer.{Answer}
 use Rattle.calls.specs.declared.answer.Answer.TheVariants.{Done, Ended}
@@ -25,7 +26,7 @@ use Rattle.rules.specs.State.{State, Outcome, start, find, raisers, unwinding}
 use Rattle.rules.proofs.Held.{find_serial, find_owned}
 use Rattle.rules.specs.Walk.{cleanup_pad, reached, landing}
 use Rattle.rules.proofs.Inv.{mk, bare_frames, bare_catches, History, book_of, arrival, way, Chain, chain_at, Good}
-use Rattle.rules.proofs.Lists.{given_both, false_unless, has_none, has_here, distinct_apart}
+use Rattle.rules.proofs.Lists.{given_both, has_none, has_here, distinct_apart}
 use Rattle.rules.proofs.Steps.{Follows, unwinding_chain, same_holders, enter_follows, move_follows, leave_follows, make_follows, begin_follows, end_follows, delete_follows, collect_follows}
 use Rattle.rules.proofs.Throw.{raise_follows, resume_follows, rethrow_follows, force_follows}
 
@@ -120,17 +121,12 @@ waits_good : (v : Verdicts) (s : State) (h : History) → Good v s h → (x : �
 waits_good v s h g x u =
     let e = same_holders v s.frames s.held s.catches h.made h.raisers h.running g.chain g.owners x in (
       (λ t. e ∙ (sym (g.waits.held x) ∙ g.waits.unheld x t)),
-      (λ f. only (has x _) (has x s.waiting) (has x h.collected) (g.waits.held x ∙ (sym e ∙ f)) u.1 (sym (g.waits.every x) ∙ u.0)),
+      (λ f. sym (or-false (has x s.waiting)) ∙ (rw (g.waits.held x ∙ (sym e ∙ f), u.1) at (sym (g.waits.every x) ∙ u.0))),
     )
-  where
-    only : (k q c : Bool) → k ≡ false → c ≡ false → (k || (q || c)) ≡ true → q ≡ true
-    only true q c ek ec t = absurd (false≢true (sym ek))
-    only false true c ek ec t = refl
-    only false false c ek ec t = absurd (both_ways c ec t)
 
 quiet_good : (v : Verdicts) (fs : List Activation) (cs : List Catch) (made : List Exception) (us : List Account) → Chain v made fs us → Ordered (length fs) cs
     → bare_frames fs ≡ [] → (us ≡ []) × (bare_catches cs ≡ [])
-quiet_good v (f ∷ fs) cs made us c o e = let z : ◌≡◌ {A = ℕ} 0 1 = cc in absurd (omega arith)
+quiet_good v (f ∷ fs) cs made us c o e = absurd cc
 quiet_good v [] (k ∷ cs) made us c o e = let l = o.0 in absurd (omega arith)
 quiet_good v [] [] made (u ∷ us) c o e = absurd c
 quiet_good v [] [] made [] c o e = (refl, refl)
@@ -157,9 +153,6 @@ collects_good v s h Collect g = go s.waiting
 -- refused, or X
 abbrev Unless : Type 0 → Outcome → Type 0
 Unless X r = (refused r.answer ≡ true) ⊎ X
-
-some_frame : (f : Activation) (fs : List Activation) → bare_frames (f ∷ fs) ≢ []
-some_frame f fs e = let z : ◌≡◌ {A = ℕ} 0 1 = cc in absurd (omega arith)
 
 -- what a raise, a force or a delete names
 raiser_named : (v : Verdicts) (s : State) (h : History) (x : ℕ) (act : Exception → Outcome) → Good v s h
@@ -200,7 +193,7 @@ make_named : (v : Verdicts) (s : State) (h : History) (class thrown : ℕ) → G
 make_named v s h class thrown g =
     cond_both (ltb (length s.held + length s.waiting) 16) _ _ (λ (r : Outcome). Apt (book_of s h) (Make class thrown) r.answer)
     (λ _. cond_both (ltb s.last 4294967295) _ _ (λ (r : Outcome). Apt (book_of s h) (Make class thrown) r.answer)
-    (λ _. inr (suc s.last, refl, false_unless _ (λ e. let l = g.waits.low (suc s.last) e in omega arith)))
+    (λ _. inr (suc s.last, refl, false_from_ne_true _ (λ e. let l = g.waits.low (suc s.last) e in omega arith)))
     (λ _. inl refl))
     (λ _. inl refl)
 
@@ -208,9 +201,9 @@ frame_named : (v : Verdicts) (fs : List Activation) (hs : List HeldException) (c
     → (Apt (book_of (mk fs hs cs q n) h) (Move place) (move place (mk fs hs cs q n)).answer) × (Apt (book_of (mk fs hs cs q n) h) Leave (leave (mk fs hs cs q n)).answer)
 frame_named v [] hs cs q n place h = (inl refl, inl refl)
 frame_named v (f ∷ fs) hs cs q n place h = (
-  inr (some_frame f fs, refl),
+  inr (λ e. cc, refl),
   cond_both (has (length fs) (map (λ c. c.frame) cs)) _ _ (λ (o : Outcome). Apt (book_of (mk (f ∷ fs) hs cs q n) h) Leave o.answer) (λ _. inl refl)
-      (λ _. given_both f.cleanup _ _ (λ (o : Outcome). Apt (book_of (mk (f ∷ fs) hs cs q n) h) Leave o.answer) (λ _. inr (some_frame f fs, refl)) (λ _ _. inl refl)),
+      (λ _. given_both f.cleanup _ _ (λ (o : Outcome). Apt (book_of (mk (f ∷ fs) hs cs q n) h) Leave o.answer) (λ _. inr (λ e. cc, refl)) (λ _ _. inl refl)),
 )
 
 catch_named : (v : Verdicts) (fs : List Activation) (hs : List HeldException) (cs : List Catch) (q : List ℕ) (n x : ℕ) (h : History) → Good v (mk fs hs cs q n) h
@@ -247,7 +240,7 @@ apt_good v s h Collect g = inr tt
 
 none_there : (P : Caught → List Caught → Type 0) (cs : List Caught) → cs ≡ [] → Newest P cs → ⊥
 none_there P [] e n = n
-none_there P (c ∷ cs) e n = let z : ◌≡◌ {A = ℕ} 0 1 = cc in omega arith
+none_there P (c ∷ cs) e n = cc
 
 refused_good : (v : Verdicts) (s : State) (h : History) (c : Call) → Good v s h → RefusedWithoutFrames (book_of s h) c (step v c s).answer
 refused_good v s h c g none =

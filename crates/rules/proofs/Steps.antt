@@ -2,7 +2,7 @@
 use Rattle.std.proofs.Common.{◌≡◌, ℕ, suc, ◌+◌, ◌<◌, ◌≤◌, Bool, true, false, cond, not, ◌&&◌, ◌||◌, eqb, ltb, List, [], ◌∷◌, ◌++◌, map, length, Some, None, Option, sym, refl, ap, ◌∙◌, subst, append_assoc, append-nil, arith}
 use mathlib.Core.List.{map-map}
 use lib.ListN.{length-map}
-use Rattle.std.proofs.lemmas.Bool.{cond_both, eqb-true, eqb-false, eq-eqb, ne_eqb, or_parts, or_left, ltb-true}
+use Rattle.std.proofs.lemmas.Bool.{false_from_ne_true, cond_both, eqb-true, eqb-false, eq-eqb, ne_eqb, or_parts, or_left, ltb-true}
 use Rattle.calls.specs.declared.answer.Answer.TheVariants.{Done, Made}
 use Rattle.calls.specs.declared.answer.Refusal.{Refusal}
 use Rattle.calls.specs.declared.call.Call.{Call}
@@ -22,7 +22,7 @@ use Rattle.rules.specs.State.{State, Outcome, refuse, find, without, raisers, un
 use Rattle.rules.proofs.Closing.{ordered_widen}
 use Rattle.rules.proofs.Held.{names, names_own, names_push, names_without, raisers_own, raisers_push, raisers_without, find_serial, find_owned, all_without, all_own, owners_disown, drop_all_none, raisers_disown, distinct_less_left}
 use Rattle.rules.proofs.Inv.{mk, bare, bare_catches, made_serials, History, book_of, Known, Chain, chain_at, Good}
-use Rattle.rules.proofs.Lists.{given_both, all_append, has_append, has_none, has_cons, has_later, has_both, has_left, has_right, has_here, has_skip, has_swap, false_unless, distinct_in}
+use Rattle.rules.proofs.Lists.{given_both, all_append, has_append, has_none, has_cons, has_later, has_both, has_left, has_right, has_here, has_skip, has_swap, distinct_in}
 use Rattle.rules.proofs.Waits.{W, w_same, w_release, w_make, w_collect}
 
 -- the book follows a call: what it notes is the book of the state after it
@@ -128,7 +128,7 @@ known_more made e d n low new k =
     rw (ne_eqb e.serial d.serial (λ p. omega arith)) k
   where
     known_there : (made : List Exception) → known e.serial made ≡ Some e → has e.serial (made_serials made) ≡ true
-    known_there [] k = let z : ◌≡◌ {A = ℕ} 0 1 = cc in absurd (omega arith)
+    known_there [] k = absurd cc
     known_there (c ∷ made) k = go (eqb e.serial c.serial) refl (known_there made) k
       where
         go : (b : Bool) → eqb e.serial c.serial ≡ b → (known e.serial made ≡ Some e → has e.serial (made_serials made) ≡ true) → cond b (Some c) (known e.serial made) ≡ Some e
@@ -241,7 +241,7 @@ module _ (v : Verdicts) (h : History) where
 
       unheld : has x (raisers s.held ++ unwinding s.frames) ≡ false
       unheld =
-          false_unless (has x (raisers s.held ++ unwinding s.frames))
+          false_from_ne_true (has x (raisers s.held ++ unwinding s.frames))
           (λ t. let l = g.waits.low x (g.waits.every x ∙ or_left (has x (names s.held)) _ (g.waits.held x ∙ has_left x (raisers s.held ++ unwinding s.frames) (caught s.catches) t)) in omega arith)
 
       at_end : (y : ℕ) → has y ((raisers (s.held ++ (r ∷ [])) ++ unwinding s.frames) ++ caught s.catches) ≡ has y (holdings s ++ (x ∷ []))

@@ -69,32 +69,32 @@ search_at : (ask : Frame → Verdict) (x n pad : ℕ) (selector : ℤ) (f : Acti
     → judged vd (length fs) (given c (search_down ask fs) (λ _. Err PassedFence)) ≡ Ok (goal.Handler n pad selector) → Seen ask x (f ∷ fs) (goal.Handler n pad selector)
 unfolding asked cleanups handlers above_handler
 search_at ask x n pad selector f fs Nothing None ev ec ih e = further ask x n pad selector f fs ec (ih e) (rw ev)
-search_at ask x n pad selector f fs Nothing (Some u) ev ec ih e = let z : ◌≡◌ {A = ℕ} 0 1 = cc in absurd (omega arith)
+search_at ask x n pad selector f fs Nothing (Some u) ev ec ih e = absurd cc
 search_at ask x n pad selector f fs (Cleanup p) None ev ec ih e = further ask x n pad selector f fs ec (ih e) (rw ev)
-search_at ask x n pad selector f fs (Cleanup p) (Some u) ev ec ih e = let z : ◌≡◌ {A = ℕ} 0 1 = cc in absurd (omega arith)
+search_at ask x n pad selector f fs (Cleanup p) (Some u) ev ec ih e = absurd cc
 search_at ask x n pad selector f fs (Handler p t) c ev ec ih e = subst (Seen ask x (f ∷ fs)) (ap goal_of e) (seen_here ask x p t f fs ev)
-search_at ask x n pad selector f fs Terminate c ev ec ih e = let z : ◌≡◌ {A = ℕ} 0 1 = cc in absurd (omega arith)
-search_at ask x n pad selector f fs (Broken t) c ev ec ih e = let z : ◌≡◌ {A = ℕ} 0 1 = cc in absurd (omega arith)
+search_at ask x n pad selector f fs Terminate c ev ec ih e = absurd cc
+search_at ask x n pad selector f fs (Broken t) c ev ec ih e = absurd cc
 
 search_sees : (ask : Frame → Verdict) (x n pad : ℕ) (selector : ℤ) (fs : List Activation) → search_down ask fs ≡ Ok (goal.Handler n pad selector) → Seen ask x fs (goal.Handler n pad selector)
 unfolding search_down
-search_sees ask x n pad selector [] e = let z : ◌≡◌ {A = ℕ} 0 1 = cc in absurd (omega arith)
+search_sees ask x n pad selector [] e = absurd cc
 search_sees ask x n pad selector (f ∷ fs) e = search_at ask x n pad selector f fs _ _ refl refl (search_sees ask x n pad selector fs) e
 
 -- it finds handlers alone
 pub search_not_keep : (ask : Frame → Verdict) (k : ℕ) (fs : List Activation) → search_down ask fs ≡ Ok (goal.Keep k) → ⊥
 unfolding search_down
-search_not_keep ask k [] e = let z : ◌≡◌ {A = ℕ} 0 1 = cc in omega arith
+search_not_keep ask k [] e = cc
 search_not_keep ask k (f ∷ fs) e = go (ask f.frame) f.cleanup (search_not_keep ask k fs) e
   where
     go : (vd : Verdict) (c : Option Unwinding) → (search_down ask fs ≡ Ok (goal.Keep k) → ⊥) → judged vd (length fs) (given c (search_down ask fs) (λ _. Err PassedFence)) ≡ Ok (goal.Keep k) → ⊥
     go Nothing None ih e = ih e
-    go Nothing (Some u) ih e = let z : ◌≡◌ {A = ℕ} 0 1 = cc in omega arith
+    go Nothing (Some u) ih e = cc
     go (Cleanup p) None ih e = ih e
-    go (Cleanup p) (Some u) ih e = let z : ◌≡◌ {A = ℕ} 0 1 = cc in omega arith
-    go (Handler p t) c ih e = let z : ◌≡◌ {A = ℕ} 0 1 = cc in omega arith
-    go Terminate c ih e = let z : ◌≡◌ {A = ℕ} 0 1 = cc in omega arith
-    go (Broken t) c ih e = let z : ◌≡◌ {A = ℕ} 0 1 = cc in omega arith
+    go (Cleanup p) (Some u) ih e = cc
+    go (Handler p t) c ih e = cc
+    go Terminate c ih e = cc
+    go (Broken t) c ih e = cc
 
 seen : (ask : Frame → Verdict) (x : ℕ) (g : Goal) (fs : List Activation) → search_down ask fs ≡ Ok g → Seen ask x fs g
 seen ask x (goal.Handler n pad selector) fs e = search_sees ask x n pad selector fs e
@@ -106,7 +106,7 @@ clear_at : (k : ℕ) (f : Activation) (fs : List Activation) (c : Option Unwindi
     → spares_fence k (given c (fence fs) (λ _. Some (length fs))) ≡ true → when_not t ((f.cleanup ≡ None) × Clear (goal.Keep k) fs)
 clear_at k f fs c true ec et ih e = tt
 clear_at k f fs None false ec et ih e = (ec, ih e)
-clear_at k f fs (Some u) false ec et ih e = let z : ◌≡◌ {A = ℕ} 0 1 = cc in absurd (omega arith)
+clear_at k f fs (Some u) false ec et ih e = absurd cc
 
 clear_force : (k : ℕ) (fs : List Activation) → spares_fence k (fence fs) ≡ true → Clear (goal.Keep k) fs
 unfolding fence
@@ -138,7 +138,7 @@ force_way ask x k (f ∷ fs) = go (leb k (length fs)) refl (ask f) (force_way as
 
 pub good_of : (b : Bool) (r : Result Goal Refusal) (n : Refusal) (g : Goal) → cond b r (Err n) ≡ Ok g → (b ≡ true) × (r ≡ Ok g)
 good_of true r n g e = (refl, e)
-good_of false r n g e = let z : ◌≡◌ {A = ℕ} 0 1 = cc in absurd (omega arith)
+good_of false r n g e = absurd cc
 
 pub down_to : (ask : Frame → Verdict) (k : ℕ) (g : Goal) (fs : List Activation) → ask_down_to ask k fs ≡ Ok g → goal.Keep k ≡ g
 unfolding ask_down_to
@@ -151,7 +151,7 @@ down_to ask k g (f ∷ fs) e = go (ltb (length fs) k) (ask f.frame) (down_to ask
     go false (Cleanup p) ih e = ih e
     go false (Handler p s) ih e = ih e
     go false Terminate ih e = ih e
-    go false (Broken t) ih e = let z : ◌≡◌ {A = ℕ} 0 1 = cc in absurd (omega arith)
+    go false (Broken t) ih e = absurd cc
 
 -- what the walk answers is noted
 

@@ -1,9 +1,10 @@
 -- Who waits, over lists of serials: all made, K in the table of held ones, H held by somebody, q waiting, col collected;
 -- n is the last serial.
 use Rattle.std.proofs.Common.{◌≡◌, ℕ, suc, ◌+◌, ◌<◌, ◌≤◌, Bool, true, false, not, ◌&&◌, ◌||◌, eqb, List, [], ◌∷◌, ◌++◌, length, sym, refl, ap, ◌∙◌, arith, length-append}
-use Rattle.std.proofs.lemmas.Bool.{eqb-true, eq-eqb, ne_eqb, both_ways, or_right, or_left}
+use Rattle.std.proofs.Math.Bool.{or-true, or-false, and-true, and-false}
+use Rattle.std.proofs.lemmas.Bool.{false_from_ne_true, eqb-true, eq-eqb, ne_eqb, both_ways, or_right, or_left}
 use Rattle.rules.specs.Lists.{has, Distinct}
-use Rattle.rules.proofs.Lists.{false_unless, or_true, or_false, and_true, and_false, has_append, has_none, has_later, has_here, has_skip, distinct_push}
+use Rattle.rules.proofs.Lists.{has_append, has_none, has_later, has_here, has_skip, distinct_push}
 use Rattle.rules.proofs.Held.{less, has_less, length_less, distinct_less}
 
 pub record W (all K H q col : List ℕ) (n : ℕ) : Type 0 where
@@ -47,22 +48,22 @@ w_release all K H H' q col n x e t f w =
     inside = w.held x ∙ t
 
     off_queue : has x q ≡ false
-    off_queue = false_unless (has x q) (λ h. both_ways (has x K) (w.unheld x h) inside)
+    off_queue = false_from_ne_true (has x q) (λ h. both_ways (has x K) (w.unheld x h) inside)
 
     other : (y : ℕ) → has y col ≡ true → eqb y x ≡ false
-    other y h = false_unless (eqb y x) (λ p. both_ways (has x K) (w.gone x (rw (eqb-true y x p) at h)).0 inside)
+    other y h = false_from_ne_true (eqb y x) (λ p. both_ways (has x K) (w.gone x (rw (eqb-true y x p) at h)).0 inside)
 
     kept : (y : ℕ) (c : Bool) → eqb y x ≡ c → (has y K && not c) ≡ has y H'
-    kept y true ec = and_false (has y K) ∙ sym (rw (eqb-true y x ec) f)
-    kept y false ec = and_true (has y K) ∙ (w.held y ∙ sym (e y ec))
+    kept y true ec = and-false (has y K) ∙ sym (rw (eqb-true y x ec) f)
+    kept y false ec = and-true (has y K) ∙ (w.held y ∙ sym (e y ec))
 
     each : (y : ℕ) (c : Bool) → eqb y x ≡ c → (has y K || (has y q || has y col)) ≡ ((has y K && not c) || ((has y q || has y (x ∷ [])) || has y col))
-    each y true ec = rw (eqb-true y x ec, inside, has_here x [], or_true (has x q))
-    each y false ec = rw (has_skip y x [] ec, has_none y, or_false (has y q), and_true (has y K))
+    each y true ec = rw (eqb-true y x ec, inside, has_here x [], or-true (has x q))
+    each y false ec = rw (has_skip y x [] ec, has_none y, or-false (has y q), and-true (has y K))
 
     away : (y : ℕ) (c : Bool) → eqb y x ≡ c → has y (q ++ (x ∷ [])) ≡ true → (has y K && not c) ≡ false
-    away y true ec h = and_false (has y K)
-    away y false ec h = and_true (has y K) ∙ w.unheld y (sym (or_false (has y q)) ∙ rw (← (has_none y), ← (has_skip y x [] ec)) (sym (has_append y q (x ∷ [])) ∙ h))
+    away y true ec h = and-false (has y K)
+    away y false ec h = and-true (has y K) ∙ w.unheld y (sym (or-false (has y q)) ∙ rw (← (has_none y), ← (has_skip y x [] ec)) (sym (has_append y q (x ∷ [])) ∙ h))
 
 -- a new serial
 pub w_make : (all K H q col : List ℕ) (n : ℕ) → length K + length q < 16 → W all K H q col n → W (suc n ∷ all) (K ++ (suc n ∷ [])) (H ++ (suc n ∷ [])) q col (suc n)
@@ -73,7 +74,7 @@ w_make all K H q col n room w =
       unheld = λ y h. rw (has_append y K (suc n ∷ []), w.unheld y h) (has_skip y (suc n) [] (small y (or_right (has y K) _ (or_left (has y q) (has y col) h))) ∙ has_none y);
       gone = λ y h. (rw (has_append y K (suc n ∷ []), (w.gone y h).0) (has_skip y (suc n) [] (small y (or_right (has y K) _ (or_right (has y q) (has y col) h))) ∙ has_none y), (w.gone y h).1);
       low = λ y h. bound y (eqb y (suc n)) refl h;
-      once = distinct_push (suc n) K (false_unless (has (suc n) K) (λ h. both_ways (eqb (suc n) (suc n)) (small (suc n) (or_left (has (suc n) K) _ h)) (eq-eqb (suc n) (suc n) refl))) w.once;
+      once = distinct_push (suc n) K (false_from_ne_true (has (suc n) K) (λ h. both_ways (eqb (suc n) (suc n)) (small (suc n) (or_left (has (suc n) K) _ h)) (eq-eqb (suc n) (suc n) refl))) w.once;
       queue_once = w.queue_once;
       gone_once = w.gone_once;
       few = let a = length-append K (suc n ∷ []) in omega arith;
@@ -83,8 +84,8 @@ w_make all K H q col n room w =
     small y h = let l = w.low y (w.every y ∙ h) in ne_eqb y (suc n) (λ p. omega arith)
 
     each : (y : ℕ) (c : Bool) → eqb y (suc n) ≡ c → has y (suc n ∷ all) ≡ ((has y K || has y (suc n ∷ [])) || (has y q || has y col))
-    each y true ec = rw (eqb-true y (suc n) ec, has_here (suc n) all, has_here (suc n) [], or_true (has (suc n) K))
-    each y false ec = rw (has_skip y (suc n) all ec, has_skip y (suc n) [] ec, has_none y, or_false (has y K)) (w.every y)
+    each y true ec = rw (eqb-true y (suc n) ec, has_here (suc n) all, has_here (suc n) [], or-true (has (suc n) K))
+    each y false ec = rw (has_skip y (suc n) all ec, has_skip y (suc n) [] ec, has_none y, or-false (has y K)) (w.every y)
 
     bound : (y : ℕ) (c : Bool) → eqb y (suc n) ≡ c → has y (suc n ∷ all) ≡ true → y ≤ suc n
     bound y true ec h = let p = eqb-true y (suc n) ec in omega arith
@@ -101,12 +102,12 @@ w_collect all K H q col n x w =
       low = w.low;
       once = w.once;
       queue_once = w.queue_once.1;
-      gone_once = (false_unless (has x col) (λ h. both_ways (has x (x ∷ q)) (w.gone x h).1 (has_here x q)), w.gone_once);
+      gone_once = (false_from_ne_true (has x col) (λ h. both_ways (has x (x ∷ q)) (w.gone x h).1 (has_here x q)), w.gone_once);
       few = let m = w.few in omega arith;
     }
   where
     each : (y : ℕ) (c : Bool) → eqb y x ≡ c → (has y K || (has y (x ∷ q) || has y col)) ≡ (has y K || (has y q || has y (x ∷ col)))
-    each y true ec = rw (eqb-true y x ec, has_here x q, has_here x col, or_true (has x q))
+    each y true ec = rw (eqb-true y x ec, has_here x q, has_here x col, or-true (has x q))
     each y false ec = rw (has_skip y x q ec, has_skip y x col ec)
 
     gone' : (y : ℕ) (c : Bool) → eqb y x ≡ c → has y (x ∷ col) ≡ true → (has y K ≡ false) × (has y q ≡ false)

@@ -56,8 +56,8 @@ ends_last (b ∷ []) a p e = (p.0, e)
 ends_last (b ∷ (c ∷ said)) a p e = (p.0, ends_last (c ∷ said) a p.1 e)
 
 snoc_some : (said : List Answer) (a : Answer) → said ++ (a ∷ []) ≢ []
-snoc_some [] a e = let z : ◌≡◌ {A = ℕ} 0 1 = cc in absurd (omega arith)
-snoc_some (b ∷ said) a e = let z : ◌≡◌ {A = ℕ} 0 1 = cc in absurd (omega arith)
+snoc_some [] a e = absurd cc
+snoc_some (b ∷ said) a e = absurd cc
 
 -- the book's frames
 

@@ -1,6 +1,6 @@
 -- The walk along a chain, and the link that gives its verdict.
 use Rattle.std.proofs.Common.{◌≡◌, ℕ, zero, suc, ◌<◌, ◌≤◌, Bool, true, false, ◌&&◌, ◌||◌, eqb, ltb, leb, ◌⊎◌, List, [], ◌∷◌, ◌++◌, length, ℤ, pos, negsuc, ◌+ℤ◌, Some, None, Ok, Err, Option, Result, sym, refl, ap, ◌∙◌, subst, inl, inr, arith}
-use Rattle.std.proofs.lemmas.Bool.{eqb-true}
+use Rattle.std.proofs.lemmas.Bool.{eqb-true, and_parts, or_cases, true≢false}
 use Rattle.std.specs.declared.ops.ControlFlow.{ControlFlow}
 use Rattle.std.specs.declared.ops.ControlFlow.TheVariants.{Continue, Break}
 use Rattle.personality.specs.declared.fault.Cause.TheVariants.{BadLink}
@@ -22,38 +22,27 @@ use Rattle.table_laws.specs.Sites.{In, here, there}
 
 is_zero : (z : ℤ) → is_0 z ≡ true → z ≡ pos 0
 is_zero (pos n) e = ap pos (eqb-true n 0 e)
-is_zero (negsuc n) e = let z : ◌≡◌ {A = ℕ} 0 1 = cc in absurd (omega arith)
+is_zero (negsuc n) e = absurd cc
 
 not_zero : (z : ℤ) → is_0 z ≡ false → z ≡ pos 0 → ⊥
-not_zero z e f = let g : true ≡ false = subst (λ y. is_0 y ≡ false) f e in let z : ◌≡◌ {A = ℕ} 0 1 = cc in omega arith
-
-and_parts : (a b : Bool) → (a && b) ≡ true → (a ≡ true) × (b ≡ true)
-and_parts true b e = (refl, e)
-and_parts false b e = let z : ◌≡◌ {A = ℕ} 0 1 = cc in absurd (omega arith)
-
-or_parts : (a b : Bool) → (a || b) ≡ true → (a ≡ true) ⊎ (b ≡ true)
-or_parts true b e = inl refl
-or_parts false b e = inr e
+not_zero z e f = true≢false (rw f at e)
 
 -- what holds of the first and of each other holds of each
 each_more : {A : Type 0} (P : A → Type 0) (x : A) (xs : List A) → P x → ((y : A) → In y xs → P y) → (y : A) → In y (x ∷ xs) → P y
 each_more P x xs h k _ here = h
 each_more P x xs h k y (there i) = k y i
 
-ok_same : {A : Type 0} (x y : A) → ◌≡◌ {A = Result A Fault} (Ok x) (Ok y) → x ≡ y
-ok_same x y e = cc
-
 ending_no_handler : (noted : Bool) (pad p : ℕ) (s : ℤ) → ending noted pad ≡ Handler p s → ⊥
-ending_no_handler true pad p s e = let z : ◌≡◌ {A = ℕ} 0 1 = cc in omega arith
-ending_no_handler false pad p s e = let z : ◌≡◌ {A = ℕ} 0 1 = cc in omega arith
+ending_no_handler true pad p s e = cc
+ending_no_handler false pad p s e = cc
 
 ending_no_terminate : (noted : Bool) (pad : ℕ) → ending noted pad ≡ Terminate → ⊥
-ending_no_terminate true pad e = let z : ◌≡◌ {A = ℕ} 0 1 = cc in omega arith
-ending_no_terminate false pad e = let z : ◌≡◌ {A = ℕ} 0 1 = cc in omega arith
+ending_no_terminate true pad e = cc
+ending_no_terminate false pad e = cc
 
 ending_cleanup : (noted : Bool) (pad p : ℕ) → ending noted pad ≡ Cleanup p → (noted ≡ true) × (pad ≡ p)
 ending_cleanup true pad p e = (refl, cc)
-ending_cleanup false pad p e = let z : ◌≡◌ {A = ℕ} 0 1 = cc in absurd (omega arith)
+ending_cleanup false pad p e = absurd cc
 
 module _ (bs : List ℕ) (start : ℕ) (h : Header) (matches : ℕ → Bool) (forced : Bool) (pad : ℕ) where
   abbrev Hit : Link → Type 0
@@ -64,18 +53,17 @@ module _ (bs : List ℕ) (start : ℕ) (h : Header) (matches : ℕ → Bool) (fo
 
   -- a filter that is found to match names an entry that matches
   hit_yes : (z : ℤ) (f : Bool) (at : ℕ) → hit_at bs start h.types matches f z at ≡ Ok true → (n : ℕ) × (type : ℕ) × (f ≡ false) × (0 < n) × (z ≡ pos n) × (entry_at bs start h.types n at ≡ Ok type) × (matches type ≡ true)
-  hit_yes (pos zero) f at e = let z : ◌≡◌ {A = ℕ} 0 1 = cc in absurd (omega arith)
+  hit_yes (pos zero) f at e = absurd cc
   hit_yes (pos (suc n)) true at e =
       let some : eqb (suc n) 0 ≡ false = grind arith in
       let g = rw (some, hit_at) at e in
-      let z : ◌≡◌ {A = ℕ} 0 1 = cc in
-      absurd (omega arith)
+      absurd cc
   hit_yes (pos (suc n)) false at e =
       let some : eqb (suc n) 0 ≡ false = grind arith in
       let p = then_parts (entry_at bs start h.types (suc n) at) (λ type. Ok (matches type)) true (rw (some, hit_at) at e) in
-      (suc n, p.0, refl, omega arith, refl, p.1, ok_same (matches p.0) true p.2)
-  hit_yes (negsuc n) true at e = let z : ◌≡◌ {A = ℕ} 0 1 = cc in absurd (omega arith)
-  hit_yes (negsuc n) false at e = let z : ◌≡◌ {A = ℕ} 0 1 = cc in absurd (omega arith)
+      (suc n, p.0, refl, omega arith, refl, p.1, cc p.2)
+  hit_yes (negsuc n) true at e = absurd cc
+  hit_yes (negsuc n) false at e = absurd cc
 
   hit_true : (l : Link) → hit l ≡ Ok true → Hit l
   hit_true l e =
@@ -97,8 +85,7 @@ module _ (bs : List ℕ) (start : ℕ) (h : Header) (matches : ℕ → Bool) (fo
   hit_false : (l : Link) → hit l ≡ Ok false → Hit l → ⊥
   hit_false l e m =
       let f = hit_matches l.filter.value forced l.at m.n m.type m.plain m.positive m.filter m.entry m.match in
-      let z : ◌≡◌ {A = ℕ} 0 1 = cc in
-      omega arith
+      cc
 
   -- where a walk goes after a link that does not match
   abbrev next_walk : Walk → Link → Walk
@@ -112,16 +99,16 @@ module _ (bs : List ℕ) (start : ℕ) (h : Header) (matches : ℕ → Bool) (fo
 
   -- the link that was read gives the step
   judged : (w : Walk) (t : ControlFlow Verdict Walk) (l : Link) → w.at ≡ pos l.at → Stands bs h.sites.end l → (b : Bool) → hit l ≡ Ok b → ◌≡◌ {A = Result (ControlFlow Verdict Walk) Fault} (elim b [ true ↦ Ok (Break (Handler pad l.filter.value)) | false ↦ Ok (onward pad (w.noted || is_0 l.filter.value) l.filter l.displacement) ]) (Ok t) → Step w t
-  judged w t l a s true q e = subst (Step w) (ok_same (Break (Handler pad l.filter.value)) t e) (matched l a s (hit_true l q))
+  judged w t l a s true q e = subst (Step w) (cc e) (matched l a s (hit_true l q))
   judged w t l a s false q e = go (is_0 l.displacement.value) refl
     where
       go : (z : Bool) → is_0 l.displacement.value ≡ z → Step w t
       go true z =
           let f : onward pad (w.noted || is_0 l.filter.value) l.filter l.displacement ≡ Break (ending (w.noted || is_0 l.filter.value) pad) = rw (z, onward) in
-          subst (Step w) (sym f ∙ ok_same (onward pad (w.noted || is_0 l.filter.value) l.filter l.displacement) t e) (ended l a s (hit_false l q) (is_zero l.displacement.value z))
+          subst (Step w) (cc (f, e)) (ended l a s (hit_false l q) (is_zero l.displacement.value z))
       go false z =
           let f : onward pad (w.noted || is_0 l.filter.value) l.filter l.displacement ≡ Continue (next_walk w l) = rw (z, onward) in
-          subst (Step w) (sym f ∙ ok_same (onward pad (w.noted || is_0 l.filter.value) l.filter l.displacement) t e) (passed l a s (hit_false l q) (not_zero l.displacement.value z))
+          subst (Step w) (cc (f, e)) (passed l a s (hit_false l q) (not_zero l.displacement.value z))
 
   linked : (w : Walk) (t : ControlFlow Verdict Walk) (at : ℕ) → w.at ≡ pos at → h.sites.end ≤ at → at < length bs → link_at bs start h.types matches forced pad w.noted at ≡ Ok t → Step w t
   linked w t at z g i e =
@@ -141,8 +128,8 @@ module _ (bs : List ℕ) (start : ℕ) (h : Header) (matches : ℕ → Bool) (fo
           test true b =
               let p = and_parts (leb h.sites.end at) (ltb at (length bs)) b in
               linked w t at z (grind (arith, p.0)) (grind (arith, p.1)) (rw (z, step_at, b) at e)
-          test false b = let f = rw (z, step_at, b) at e in let y : ◌≡◌ {A = ℕ} 0 1 = cc in absurd (omega arith)
-      go (negsuc n) z = let f = rw (z, step_at) at e in let y : ◌≡◌ {A = ℕ} 0 1 = cc in absurd (omega arith)
+          test false b = let f = rw (z, step_at, b) at e in absurd cc
+      go (negsuc n) z = let f = rw (z, step_at) at e in absurd cc
 
   -- the walk of at most k steps
   abbrev walk : ℕ → Walk → Result Verdict Fault
@@ -153,14 +140,13 @@ module _ (bs : List ℕ) (start : ℕ) (h : Header) (matches : ℕ → Bool) (fo
 
   handled : (k : ℕ) (w : Walk) (p : ℕ) (s : ℤ) → walk k w ≡ Ok (Handler p s) → (pad ≡ p) × FromLink bs start h matches forced k w.at s
   unfolding iterate
-  handled zero w p s e = let z : ◌≡◌ {A = ℕ} 0 1 = cc in absurd (omega arith)
+  handled zero w p s e = absurd cc
   handled (suc k) w p s e =
       let q = then_parts (step_at bs start h matches forced pad w) _ (Handler p s) e in
       go q.0 (step_is w q.0 q.1) q.2 (λ n. handled k n p s)
     where
       go : (t : ControlFlow Verdict Walk) → Step w t → after k t ≡ Ok (Handler p s) → ((n : Walk) → walk k n ≡ Ok (Handler p s) → (pad ≡ p) × FromLink bs start h matches forced k n.at s) → (pad ≡ p) × FromLink bs start h matches forced (suc k) w.at s
       go _ (matched l a d m) f ih =
-          let g : Handler pad l.filter.value ≡ Handler p s = ok_same (Handler pad l.filter.value) (Handler p s) f in
           let same : pad ≡ p = cc in
           let selector : l.filter.value ≡ s = cc in (
             same,
@@ -174,7 +160,7 @@ module _ (bs : List ℕ) (start : ℕ) (h : Header) (matches : ℕ → Bool) (fo
               first_match = λ x i. elim i [ ];
             },
           )
-      go _ (ended l a d m z) f ih = absurd (ending_no_handler (w.noted || is_0 l.filter.value) pad p s (ok_same (ending (w.noted || is_0 l.filter.value) pad) (Handler p s) f))
+      go _ (ended l a d m z) f ih = absurd (ending_no_handler (w.noted || is_0 l.filter.value) pad p s (cc f))
       go _ (passed l a d m z) f ih =
           let r = ih (next_walk w l) f in (
             r.0,
@@ -192,14 +178,14 @@ module _ (bs : List ℕ) (start : ℕ) (h : Header) (matches : ℕ → Bool) (fo
   -- no walk ends in Terminate
   never_terminates : (k : ℕ) (w : Walk) → walk k w ≡ Ok Terminate → ⊥
   unfolding iterate
-  never_terminates zero w e = let z : ◌≡◌ {A = ℕ} 0 1 = cc in omega arith
+  never_terminates zero w e = cc
   never_terminates (suc k) w e =
       let q = then_parts (step_at bs start h matches forced pad w) _ Terminate e in
       go q.0 (step_is w q.0 q.1) q.2 (never_terminates k)
     where
       go : (t : ControlFlow Verdict Walk) → Step w t → after k t ≡ Ok Terminate → ((n : Walk) → walk k n ≡ Ok Terminate → ⊥) → ⊥
-      go _ (matched l a d m) f ih = let z : ◌≡◌ {A = ℕ} 0 1 = cc in omega arith
-      go _ (ended l a d m z) f ih = ending_no_terminate (w.noted || is_0 l.filter.value) pad (ok_same (ending (w.noted || is_0 l.filter.value) pad) Terminate f)
+      go _ (matched l a d m) f ih = cc
+      go _ (ended l a d m z) f ih = ending_no_terminate (w.noted || is_0 l.filter.value) pad (cc f)
       go _ (passed l a d m z) f ih = ih (next_walk w l) f
 
   -- a whole walk that ends in a cleanup: one was noted before, or a link of it has filter 0
@@ -214,26 +200,22 @@ module _ (bs : List ℕ) (start : ℕ) (h : Header) (matches : ℕ → Bool) (fo
 
   cleaned : (k : ℕ) (w : Walk) (p : ℕ) → walk k w ≡ Ok (Cleanup p) → (pad ≡ p) × Whole k w
   unfolding iterate
-  cleaned zero w p e = let z : ◌≡◌ {A = ℕ} 0 1 = cc in absurd (omega arith)
+  cleaned zero w p e = absurd cc
   cleaned (suc k) w p e =
       let q = then_parts (step_at bs start h matches forced pad w) _ (Cleanup p) e in
       go q.0 (step_is w q.0 q.1) q.2 (λ n. cleaned k n p)
     where
       noted_here : (l : Link) (es : List Link) (m : Link) → In l (es ++ (m ∷ [])) → (w.noted || is_0 l.filter.value) ≡ true → (w.noted ≡ true) ⊎ ((e : Link) × In e (es ++ (m ∷ [])) × (e.filter.value ≡ pos 0))
-      noted_here l es m i b = pick (or_parts w.noted (is_0 l.filter.value) b)
-        where
-          pick : (w.noted ≡ true) ⊎ (is_0 l.filter.value ≡ true) → (w.noted ≡ true) ⊎ ((e : Link) × In e (es ++ (m ∷ [])) × (e.filter.value ≡ pos 0))
-          pick (inl a) = inl a
-          pick (inr a) = inr (l, i, is_zero l.filter.value a)
+      noted_here l es m i b = elim (or_cases w.noted (is_0 l.filter.value) b) [ inl a ↦ inl a | inr a ↦ inr (l, i, is_zero l.filter.value a) ]
 
       carried : (l : Link) (es : List Link) (m : Link) → ((w.noted || is_0 l.filter.value) ≡ true) ⊎ ((e : Link) × In e (es ++ (m ∷ [])) × (e.filter.value ≡ pos 0)) → (w.noted ≡ true) ⊎ ((e : Link) × In e (l ∷ (es ++ (m ∷ []))) × (e.filter.value ≡ pos 0))
       carried l es m (inl b) = noted_here l (l ∷ es) m here b
       carried l es m (inr x) = inr (x.0, there x.1, x.2)
 
       go : (t : ControlFlow Verdict Walk) → Step w t → after k t ≡ Ok (Cleanup p) → ((n : Walk) → walk k n ≡ Ok (Cleanup p) → (pad ≡ p) × Whole k n) → (pad ≡ p) × Whole (suc k) w
-      go _ (matched l a d m) f ih = let z : ◌≡◌ {A = ℕ} 0 1 = cc in absurd (omega arith)
+      go _ (matched l a d m) f ih = absurd cc
       go _ (ended l a d m z) f ih =
-          let r = ending_cleanup (w.noted || is_0 l.filter.value) pad p (ok_same (ending (w.noted || is_0 l.filter.value) pad) (Cleanup p) f) in (
+          let r = ending_cleanup (w.noted || is_0 l.filter.value) pad p (cc f) in (
             r.1,
             record {
               earlier = [];
@@ -268,20 +250,20 @@ pub landed_goes_on : (bs : List ℕ) (start : ℕ) (h : Header) (matches : ℕ �
 landed_goes_on bs start h matches forced site e = said (landed bs start h matches forced site) refl e
   where
     go : (o : Option ℕ) → site.pad ≡ o → (b : Bool) → eqb site.action.value 0 ≡ b → landed bs start h matches forced site ≡ Ok Terminate → ⊥
-    go None o b a f = let g = rw (o, landed) at f in let z : ◌≡◌ {A = ℕ} 0 1 = cc in omega arith
-    go (Some p) o true a f = let g = rw (o, landed, a) at f in let z : ◌≡◌ {A = ℕ} 0 1 = cc in omega arith
+    go None o b a f = let g = rw (o, landed) at f in cc
+    go (Some p) o true a f = let g = rw (o, landed, a) at f in cc
     go (Some p) o false a f = never_terminates bs start h matches forced p 64 (first_link_of h.sites.end site.action) (sym (chained bs start h matches forced site p o a) ∙ f)
 
     said : (r : Result Verdict Fault) → landed bs start h matches forced site ≡ r → verdict_of r ≡ Terminate → ⊥
     said (Ok v) f g = go site.pad refl (eqb site.action.value 0) refl (f ∙ ap (λ (x : Verdict). Ok x) g)
-    said (Err x) f g = let z : ◌≡◌ {A = ℕ} 0 1 = cc in omega arith
+    said (Err x) f g = cc
 
 pub handler_landed : (bs : List ℕ) (start : ℕ) (h : Header) (matches : ℕ → Bool) (forced : Bool) (site : Site) (pad : ℕ) (selector : ℤ) → landed bs start h matches forced site ≡ Ok (Handler pad selector) → (site.pad ≡ Some pad) × FromLink bs start h matches forced 64 (start_of h site) selector
 handler_landed bs start h matches forced site pad selector e = go site.pad refl (eqb site.action.value 0) refl
   where
     go : (o : Option ℕ) → site.pad ≡ o → (b : Bool) → eqb site.action.value 0 ≡ b → (site.pad ≡ Some pad) × FromLink bs start h matches forced 64 (first_link_of h.sites.end site.action).at selector
-    go None o b a = let f = rw (o, landed) at e in let z : ◌≡◌ {A = ℕ} 0 1 = cc in absurd (omega arith)
-    go (Some p) o true a = let f = rw (o, landed, a) at e in let z : ◌≡◌ {A = ℕ} 0 1 = cc in absurd (omega arith)
+    go None o b a = let f = rw (o, landed) at e in absurd cc
+    go (Some p) o true a = let f = rw (o, landed, a) at e in absurd cc
     go (Some p) o false a =
         let r = handled bs start h matches forced p 64 (first_link_of h.sites.end site.action) pad selector (sym (chained bs start h matches forced site p o a) ∙ e) in
         (o ∙ ap (λ (n : ℕ). Some n) r.0, r.1)
@@ -297,11 +279,11 @@ cleanup_landed bs start h matches forced site pad e = go site.pad refl (eqb site
       few = w.few;
       ends = w.ends;
       no_match = w.no_match;
-      cleanup = elim w.cleanup [ inl a ↦ absurd (let z : ◌≡◌ {A = ℕ} 0 1 = cc in omega arith) | inr x ↦ x ];
+      cleanup = elim w.cleanup [ inl a ↦ absurd (cc) | inr x ↦ x ];
     }
 
     go : (o : Option ℕ) → site.pad ≡ o → (b : Bool) → eqb site.action.value 0 ≡ b → (site.pad ≡ Some pad) × ((site.action.value ≡ 0) ⊎ FromChain bs start h matches forced 64 (first_link_of h.sites.end site.action).at)
-    go None o b a = let f = rw (o, landed) at e in let z : ◌≡◌ {A = ℕ} 0 1 = cc in absurd (omega arith)
+    go None o b a = let f = rw (o, landed) at e in absurd cc
     go (Some p) o true a =
         let f = rw (o, landed, a) at e in
         let same : p ≡ pad = cc in

@@ -1,5 +1,5 @@
 -- The laws of a leaf's verdict from those of its call site's.
-use Rattle.std.proofs.Common.{◌≡◌, ℕ, Bool, true, false, eqb, List, take, Some, None, Ok, Err, Option, Result, sym, refl, ap, ◌∙◌, arith}
+use Rattle.std.proofs.Common.{◌≡◌, ℕ, Bool, true, false, eqb, List, take, Some, None, Ok, Err, Option, Result, sym, refl, ap, ◌∙◌}
 use Rattle.personality.specs.Layers.{in_unit_0}
 use Rattle.personality.specs.declared.fault.Fault.{Fault}
 use Rattle.personality.specs.declared.verdict.Question.{Question}
@@ -29,8 +29,8 @@ Lands (Broken fault) = ⊥
 said_ok : (r : Result Verdict Fault) (v : Verdict) → Lands v → verdict_of r ≡ v → r ≡ Ok v
 said_ok (Ok w) v l e = ap (λ (x : Verdict). Ok x) e
 said_ok (Err f) Nothing l e = absurd l
-said_ok (Err f) (Cleanup pad) l e = let z : ◌≡◌ {A = ℕ} 0 1 = cc in absurd (omega arith)
-said_ok (Err f) (Handler pad selector) l e = let z : ◌≡◌ {A = ℕ} 0 1 = cc in absurd (omega arith)
+said_ok (Err f) (Cleanup pad) l e = absurd cc
+said_ok (Err f) (Handler pad selector) l e = absurd cc
 said_ok (Err f) Terminate l e = absurd l
 said_ok (Err f) (Broken g) l e = absurd l
 
@@ -39,8 +39,8 @@ in_unit q w v l e = go (eqb q.unit 0) refl
   where
     broken_lands : (f : Fault) (u : Verdict) → Lands u → Broken f ≡ u → ⊥
     broken_lands f Nothing k d = k
-    broken_lands f (Cleanup pad) k d = let z : ◌≡◌ {A = ℕ} 0 1 = cc in omega arith
-    broken_lands f (Handler pad selector) k d = let z : ◌≡◌ {A = ℕ} 0 1 = cc in omega arith
+    broken_lands f (Cleanup pad) k d = cc
+    broken_lands f (Handler pad selector) k d = cc
     broken_lands f Terminate k d = k
     broken_lands f (Broken g) k d = k
 
@@ -50,10 +50,10 @@ in_unit q w v l e = go (eqb q.unit 0) refl
 
 unlisted_stays : (b : Bool) (v : Verdict) → Lands v → unlisted b ≡ v → ⊥
 unlisted_stays b Nothing l e = l
-unlisted_stays true (Cleanup pad) l e = let z : ◌≡◌ {A = ℕ} 0 1 = cc in omega arith
-unlisted_stays false (Cleanup pad) l e = let z : ◌≡◌ {A = ℕ} 0 1 = cc in omega arith
-unlisted_stays true (Handler pad selector) l e = let z : ◌≡◌ {A = ℕ} 0 1 = cc in omega arith
-unlisted_stays false (Handler pad selector) l e = let z : ◌≡◌ {A = ℕ} 0 1 = cc in omega arith
+unlisted_stays true (Cleanup pad) l e = cc
+unlisted_stays false (Cleanup pad) l e = cc
+unlisted_stays true (Handler pad selector) l e = cc
+unlisted_stays false (Handler pad selector) l e = cc
 unlisted_stays b Terminate l e = l
 unlisted_stays b (Broken f) l e = l
 

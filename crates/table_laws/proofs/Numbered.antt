@@ -1,5 +1,5 @@
 -- The search for the n-th call site, over whole lists of numbered records.
-use Rattle.std.proofs.Common.{◌≡◌, ℕ, zero, suc, ◌+◌, ◌-◌, ◌<◌, ◌≤◌, Bool, true, false, eqb, ltb, List, length, take, Some, None, Ok, Err, Option, Result, refl, ap, ◌∙◌, arith}
+use Rattle.std.proofs.Common.{◌≡◌, ℕ, zero, suc, ◌+◌, ◌-◌, ◌<◌, ◌≤◌, Bool, true, false, eqb, ltb, List, length, take, Some, None, Ok, Option, Result, refl, ap, ◌∙◌, arith}
 use Rattle.std.proofs.lemmas.List.{length-take}
 use Rattle.std.specs.declared.ops.ControlFlow.{ControlFlow}
 use Rattle.std.specs.declared.ops.ControlFlow.TheVariants.{Continue, Break}
@@ -26,8 +26,8 @@ use Rattle.table_laws.proofs.Sites.{in_record_ok, unit_0}
 
 -- a good record ends where its last field does
 next_is : (t : Bool) (at : ℕ) (x r : Read Site) → ◌≡◌ {A = Result (Read Site) Fault} (elim t [ true ↦ broken BadAddress at | false ↦ Ok x ]) (Ok r) → x.next ≡ r.next
-next_is true at x r e = let z : ◌≡◌ {A = ℕ} 0 1 = cc in absurd (omega arith)
-next_is false at x r e = ap (λ (y : Result (Read Site) Fault). elim y [ Ok n ↦ n.next | Err _ ↦ 0 ]) e
+next_is true at x r e = absurd cc
+next_is false at x r e = cc
 
 numbered_onward : (bs : List ℕ) (at : ℕ) (r : Read Site) → numbered_at bs at ≡ Ok r → at < r.next
 numbered_onward bs at r e =

@@ -31,7 +31,7 @@ use Rattle.table_laws.specs.Sites.{In, here, there, Records, Rising, Holds, Agre
 
 pub in_record_ok : {A : Type 0} (r : Result A Fault) (at : ℕ) (x : A) → in_record_at r at ≡ Ok x → r ≡ Ok x
 in_record_ok (Ok y) at x e = e
-in_record_ok (Err f) at x e = let z : ◌≡◌ {A = ℕ} 0 1 = cc in absurd (omega arith)
+in_record_ok (Err f) at x e = absurd cc
 
 fields_onward : (bs : List ℕ) (f : Format) (at : ℕ) (r : Fields) → fields_at bs f at ≡ Ok r → at < r.action.next
 fields_onward bs f at r e =
@@ -39,7 +39,7 @@ fields_onward bs f at r e =
     let b = then_parts (in_record_at (number_at bs f a.0.next) at) _ r a.2 in
     let c = then_parts (in_record_at (number_at bs f b.0.next) at) _ r b.2 in
     let d = then_parts (in_record_at (unsigned_at bs c.0.next) at) _ r c.2 in
-    let same : d.0.next ≡ r.action.next = ap (λ (x : Result Fields Fault). elim x [ Ok y ↦ y.action.next | Err _ ↦ 0 ]) d.2 in
+    let same : d.0.next ≡ r.action.next = cc d.2 in
     omega (
       arith,
       number_onward bs f at a.0 (in_record_ok (number_at bs f at) at a.0 a.1),
@@ -56,10 +56,10 @@ address_above base (pos n) at r e = go (leb (base + n) 4294967295) refl
     go : (b : Bool) → leb (base + n) 4294967295 ≡ b → base ≤ r
     go true f =
         let g = rw (f, address) at e in
-        let same : base + n ≡ r = ap (λ (x : Result ℕ Fault). elim x [ Ok y ↦ y | Err _ ↦ 0 ]) g in
+        let same : base + n ≡ r = cc g in
         omega arith
-    go false f = let g = rw (f, address) at e in let z : ◌≡◌ {A = ℕ} 0 1 = cc in absurd (omega arith)
-address_above base (negsuc n) at r e = let z : ◌≡◌ {A = ℕ} 0 1 = cc in absurd (omega arith)
+    go false f = let g = rw (f, address) at e in absurd cc
+address_above base (negsuc n) at r e = absurd cc
 
 -- a record that is read goes on, and does not end before it begins
 ranged_facts : (bs : List ℕ) (h : Header) (function at : ℕ) (r : Read Ranged) → ranged_at bs h function at ≡ Ok r → (at < r.next) × (r.value.from ≤ r.value.to)
