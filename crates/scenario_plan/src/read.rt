@@ -180,17 +180,6 @@ fn leaf<'w, 't>(heap: Global, words: &'w [&'t str]) -> Result<Read<'w, 't, Owned
     }
 }
 
-// A leaf as a whole personality. Out of line, so that its locals do not stand in each frame of the recursion below.
-#[inline(never)]
-fn single<'w, 't>(
-    heap: Global,
-    words: &'w [&'t str],
-) -> Result<Read<'w, 't, Composed<OwnedLeaf>>, Wrong<'t>>
-    ensures { IfOk result (λ x. Says x.found words.now x.rest.now) }
-{
-    Ok(leaf(heap, words)?.map(Composed::Leaf))
-}
-
 // The pair of what was read first and then.
 fn both<'w, 't>(
     heap: Global,
@@ -218,7 +207,8 @@ fn hosted<'w, 't>(
     })
 }
 
-// A personality in brackets.
+// A personality in brackets. Inlined, so that each layer takes one small frame of the stack.
+#[inline(always)]
 #[cycle(enclosed_read_plan)]
 fn enclosed<'w, 't>(
     heap: Global,
@@ -227,12 +217,9 @@ fn enclosed<'w, 't>(
     ensures { IfOk result (λ x. Enclosed (Says x.found) words.now x.rest.now) }
 {
     let inside = bracket(words, "(")?;
-    let read = read_plan(heap, inside)?;
-    let rest = bracket(read.rest, ")")?;
-    Ok(Read {
-        found: read.found,
-        rest,
-    })
+    let mut read = read_plan(heap, inside)?;
+    read.rest = bracket(read.rest, ")")?;
+    Ok(read)
 }
 
 // The personality that the words begin with.
@@ -253,6 +240,6 @@ pub fn read_plan<'w, 't>(
             let below = enclosed(heap, rest)?;
             hosted(heap, below)
         }
-        _ => single(heap, words),
+        _ => Ok(leaf(heap, words)?.map(Composed::Leaf)),
     }
 }
