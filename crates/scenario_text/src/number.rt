@@ -19,11 +19,10 @@ fn number(word: &str, radix: u32) -> Result<u64, Misread>
     if word.starts_with('+') {
         return Err(Misread::NotDigits);
     }
-    match u64::from_str_radix(word, radix) {
-        Ok(n) => Ok(n),
-        Err(e) if *e.kind() == IntErrorKind::PosOverflow => Err(Misread::TooLarge),
-        Err(_) => Err(Misread::NotDigits),
-    }
+    u64::from_str_radix(word, radix).map_err(|e| match e.kind() {
+        IntErrorKind::PosOverflow => Misread::TooLarge,
+        _ => Misread::NotDigits,
+    })
 }
 
 // A decimal number of this many bits, which is at most the largest. A number type as parameter, in place of both, would need
@@ -55,21 +54,19 @@ pub fn read_u32<'a>(word: &'a str) -> Result<u32, Wrong<'a>>
 pub fn read_class<'a>(word: &'a str) -> Result<u64, Wrong<'a>>
     ensures { Written 16 (2 ^ 64) word.now result }
 {
-    match number(word, 16) {
-        Ok(class) => Ok(class),
-        Err(Misread::TooLarge) => Err(Wrong::TooLarge { word, bits: 64 }),
-        Err(Misread::NotDigits) => Err(Wrong::NotAClass(word)),
-    }
+    number(word, 16).or_else(|misread| match misread {
+        Misread::TooLarge => Err(Wrong::TooLarge { word, bits: 64 }),
+        Misread::NotDigits => Err(Wrong::NotAClass(word)),
+    })
 }
 
+#[tactic(auto, using(crate::proofs::Digits::two_digits))]
 pub fn read_byte<'a>(word: &'a str) -> Result<u8, Wrong<'a>>
     ensures { ByteWritten word.now result }
 {
     if word.len() > 2 {
         return Err(Wrong::NotAByte(word));
     }
-    match number(word, 16) {
-        Ok(n) => Ok(n as u8),
-        Err(_) => Err(Wrong::NotAByte(word)),
-    }
+    let n = number(word, 16).map_err(|_| Wrong::NotAByte(word))?;
+    Ok(n as u8)
 }
