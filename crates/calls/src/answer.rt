@@ -12,7 +12,7 @@ pub enum Kind {
 }
 
 impl Kind {
-    // The selector that a landing answers: the handler's, 0 at a cleanup.
+    // The selector that a landing answers: the handler's, and as the rules have it 0 at a cleanup.
     pub fn selector(self) -> i32
         ensures { result ≡ selector_of self }
     {
@@ -46,7 +46,7 @@ pub enum Answer {
     Stopped {
         serial: u32,
     },
-    // begin: the handler count, which is negative while the exception unwinds or has a catch that is not begun
+    // begin: the handler count, as the rules have it negative while the exception unwinds or has a catch that is not begun
     Begun {
         handlers: i32,
     },

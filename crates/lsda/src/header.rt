@@ -1,4 +1,5 @@
-// The header of a table. Each field is judged as it is read.
+// The header of a table. Each field is judged as it is read. That a reader ends inside its bytes relates its answer to them, and
+// so is a clause of each.
 ghost use Rattle.std.specs.Prelude.{◌≡◌, ◌^◌, ◌<◌, ◌≤◌, length, pos, ◌<ℤ◌, IfOk, OnOk};
 ghost use Rattle.lsda.specs.Header.{byte_at, format_at, natural, landing_at, type_width, types_at, site_format, sites_at, header_at, Near, Sound};
 
@@ -91,7 +92,8 @@ fn type_entry_width(code: u8, at: usize) -> Result<Width, Fault>
     }
 }
 
-// The type table, where there is one.
+// The type table, where there is one. Of an omitted landing start another value comes, and other fields follow, so that each of
+// the two tests for it.
 fn read_types(bytes: &[u8], at: usize) -> Result<Read<Option<TypeTable>>, Fault>
     ensures is { result ≡ types_at bytes.now at }
     ensures within { IfOk result (λ t. (t.next ≤ length bytes.now) × Near t.value) }

@@ -25,7 +25,7 @@ pub enum Spoken {
     Exact(Exact),
 }
 
-// What was read, and the words after it: as numbers are read, but from words.
+// What was read, and the words after it. The readers of numbers have such a type for bytes, in a crate that knows no words.
 #[derive(Drop)]
 pub struct Read<'w, 't, T> {
     pub found: T,
