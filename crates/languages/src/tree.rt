@@ -12,6 +12,7 @@ pub struct Tree<'a> {
 
 impl Tree<'_> {
     // Whether a catch type is the thrown type itself or one of its ancestors.
+    #[tactic(auto, using(crate::proofs::Caught::decides))]
     pub fn is_self_or_ancestor(&self, catch: u16, thrown: u16) -> bool
         ensures { IsTrue result ↔ Catches self.now.parents.now catch thrown }
     {

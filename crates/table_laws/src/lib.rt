@@ -21,6 +21,7 @@ use personality::verdict::{Question, Verdict};
 // is, and a place that numbers none is unlisted.
 // Handler: its selector is the filter of the first link of the chain that matches, and no earlier link matches.
 // Cleanup: it comes only where the action is 0, or where no link of the chain matches and one has filter 0.
+#[tactic(auto, using(crate::proofs::Leaves::handler_law, crate::proofs::Leaves::cleanup_law, crate::proofs::Sites::sites_law))]
 pub fn ask_table<L: Language>(table: &Table<L>, image: &[u8], question: Question) -> Verdict
     ensures sites { SitesLaw L.Language.native (L.Language.caught table.now.language) table.now image.now question result }
     ensures numbers { NumbersLaw L.Language.native (L.Language.caught table.now.language) table.now image.now question result }
