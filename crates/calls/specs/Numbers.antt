@@ -1,4 +1,4 @@
--- The numbers of refusals, and of handlers.
+-- The numbers of refusals, and the selectors of landings.
 use Rattle.std.specs.Prelude.{ℕ, ℤ, pos}
 use Rattle.calls.specs.declared.answer.Kind.{Kind}
 use Rattle.calls.specs.declared.answer.Kind.TheVariants.{Cleanup, Handler}

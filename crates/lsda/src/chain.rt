@@ -97,8 +97,8 @@ impl<L: Language> Chain<'_, L> {
         }
     }
 
-    // What follows a link that does not match: the end where its displacement is 0, or the link that it leads to, counted
-    // from its own first byte.
+    // What follows a link that does not match: the end where its displacement is 0, a number that is tested here alone, or
+    // the link that it leads to, counted from its own first byte.
     fn go_on(&self, noted: bool, filter: Number, displacement: Number) -> ControlFlow<Verdict, Walk>
         requires short { filter.next < 2 ^ 33 }
         requires above { negsuc 2147483647 ≤ℤ displacement.value }

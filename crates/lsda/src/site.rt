@@ -40,8 +40,8 @@ pub struct Fields {
     pub action: Unsigned,
 }
 
-// The call site that is looked for: that of a place, or the one that comes after so many. There is none at number 0, which
-// is no case of its own, as the count goes down to it.
+// The call site that is looked for: that of a place, or the n-th from here on. There is none at number 0, which is no case of
+// its own, as the count goes down to it.
 #[derive(Clone, Copy)]
 pub enum Wanted {
     Place(u32),

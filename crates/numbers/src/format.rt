@@ -19,7 +19,8 @@ pub struct Format {
     pub signed: bool,
 }
 
-// The formats are a constant table, under one rule, and so constants each: a constant's value can call no function.
+// The formats are a constant table, under one rule, which has their names in place of their text: a constant's value can call
+// no function.
 const REFUSED: Option<Format> = None;
 
 const UNSIGNED_LEB128: Option<Format> = Some(Format {

@@ -139,7 +139,7 @@ fn table<'w, 't>(
     }
 }
 
-// The leaf of a table, by its language.
+// The leaf of a table, by its language: field by field, as the two leaves are of two types.
 fn table_leaf(table: Table<Spoken>) -> OwnedLeaf
     ensures { result ≡ leaf_of table table.language }
 {

@@ -26,7 +26,7 @@ fn number(word: &str, radix: u32) -> Result<u64, Misread>
 }
 
 // A decimal number of this many bits, which is at most the largest. A number type as parameter, in place of both, would need
-// a trait for its bits, its largest value and what it stands for.
+// a trait with three ghost members for two functions of one line.
 fn decimal<'a>(word: &'a str, bits: u8, largest: u64) -> Result<u64, Wrong<'a>>
     ensures { Written 10 (largest + 1) word.now result }
 {
