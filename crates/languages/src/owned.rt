@@ -21,7 +21,7 @@ impl OwnedTree {
 }
 
 impl Language for OwnedTree {
-    const CLASS: u64 = 0x474e_5543_432b_2b00;
+    const CLASS: u64 = <Tree as Language>::CLASS;
 
     ghost native = { tree_class };
 

@@ -39,7 +39,7 @@ pub(crate) struct Chain<'a, L> {
     pub language: &'a L,
     pub question: Question,
     pub pad: u32,
-    // offsets can be counted from
+    // so that an offset and a field of 32 bits have a sum
     ghost short: { length bytes.now < 2 ^ 33 },
     ghost inside: { header.sites.end ≤ length bytes.now },
     ghost near: { Near header.types } by { Prim.hlevel props },
@@ -63,8 +63,8 @@ impl<L: Language> Chain<'_, L> {
         type_in(read_fixed(self.bytes, entry, types.width, false)?, at)
     }
 
-    // Type 0 matches everything; another matches a native exception that the language says it catches. A number, since an
-    // enum made of it would be matched here alone.
+    // Type 0 matches everything; another matches a native exception that the language says it catches. The type is a number,
+    // since an enum made of it would be matched here alone.
     fn matches(&self, entry: u16) -> bool
         ensures { result ≡ matching L.Language.native (L.Language.caught self.now.language.now) self.now.question entry }
     {
@@ -72,8 +72,8 @@ impl<L: Language> Chain<'_, L> {
         entry == 0 || self.language.is_native(class) && self.language.catches(entry, thrown)
     }
 
-    // Whether a filter at an offset matches. A forced question passes over all filters. A number, since one that matches
-    // is the handler's selector.
+    // Whether a filter at an offset matches. A forced question passes over all filters. The filter is a number, since one that
+    // matches is the handler's selector.
     fn hits(&self, filter: i64, at: usize) -> Result<bool, Fault>
         requires { filter <ℤ pos 2147483648 }
         ensures { result ≡ hit_at self.now.bytes.now self.now.start self.now.header.types (matching L.Language.native (L.Language.caught self.now.language.now) self.now.question) self.now.question.forced filter at }

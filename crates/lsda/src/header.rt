@@ -1,5 +1,5 @@
-// The header of a table. Each field is judged as it is read. That a reader ends inside its bytes relates its answer to them, and
-// so is a clause of each.
+// The header of a table. Each field is judged as it is read. Each reader has a clause that it ends inside its bytes: that
+// relates an answer to the bytes, and so is no invariant of a type.
 ghost use Rattle.std.specs.Prelude.{◌≡◌, ◌^◌, ◌<◌, ◌≤◌, length, pos, ◌<ℤ◌, IfOk, OnOk};
 ghost use Rattle.lsda.specs.Header.{byte_at, format_at, natural, landing_at, type_width, types_at, site_format, sites_at, header_at, Near, Sound};
 
@@ -92,8 +92,8 @@ fn type_entry_width(code: u8, at: usize) -> Result<Width, Fault>
     }
 }
 
-// The type table, where there is one. Of an omitted landing start another value comes, and other fields follow, so that each of
-// the two tests for it.
+// The type table, where there is one. It tests for an omitted field itself, as the landing start does: the value in its place
+// differs, and so does what is read else.
 fn read_types(bytes: &[u8], at: usize) -> Result<Read<Option<TypeTable>>, Fault>
     ensures is { result ≡ types_at bytes.now at }
     ensures within { IfOk result (λ t. (t.next ≤ length bytes.now) × Near t.value) }

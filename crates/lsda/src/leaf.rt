@@ -101,7 +101,7 @@ impl<L: Language> Personality for Table<L> {
 
     ghost forced = { λ s image q e. harmless L.Language.native (L.Language.caught s.language) s image q e };
 
-    // A leaf has unit 0 alone: the test of Release, which goes on to another verdict.
+    // A leaf has unit 0 alone. Release has the same test, and another verdict after it.
     fn ask(&self, image: &[u8], question: Question) -> Verdict {
         if question.unit != 0 {
             return Verdict::Broken(Fault::at(Cause::NoUnit, 0));

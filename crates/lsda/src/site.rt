@@ -8,8 +8,8 @@ use numbers::number::{Number, Read, Unsigned, read_unsigned};
 use personality::fault::{Cause, Fault};
 use std::ops::ControlFlow;
 
-// An action, and the offset where it stands: 0 is a cleanup, another names the first link of a chain. A number, since an enum
-// would have number and offset in its one other arm, and be matched in one place.
+// An action, and the offset where it stands: 0 is a cleanup, another names the first link of a chain. An enum would have number
+// and offset in its other arm, and be matched in one place.
 #[derive(Clone, Copy)]
 pub struct Action {
     pub value: u32,
@@ -211,7 +211,8 @@ impl CallSiteTable<'_> {
     }
 
     // The call site that is wanted, None where the place is unlisted. A record has a byte or more, so that as many turns as
-    // there are bytes are enough. A loop as that along a chain, since one over a closure would need a relation of its turns.
+    // there are bytes are enough. The loop along a chain is this one at other types: over a closure it would need a relation
+    // of its turns.
     #[tactic(auto, using(crate::proofs::Turns::turn_err, crate::proofs::Turns::turn_done, crate::proofs::Turns::turn_next, crate::proofs::Turns::turn_end))]
     pub(crate) fn find(&self, wanted: Wanted) -> Result<Option<Site>, Fault>
         ensures { result ≡ find_site self.now.bytes.now self.now.header self.now.function wanted }

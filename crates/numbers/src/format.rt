@@ -19,8 +19,8 @@ pub struct Format {
     pub signed: bool,
 }
 
-// The formats are a constant table, under one rule, which has their names in place of their text: a constant's value can call
-// no function.
+// The formats stand in a constant table, under one rule. Each has a name there, since a constant's value can call no function
+// that would make it.
 const REFUSED: Option<Format> = None;
 
 const UNSIGNED_LEB128: Option<Format> = Some(Format {

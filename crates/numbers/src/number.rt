@@ -89,7 +89,7 @@ impl Digits {
         }
     }
 
-    // One digit more, in one byte more: the offset is a part of the record, and goes up with it.
+    // One digit more, in one byte more. The offset is counted here, as a part of the record.
     fn push(&mut self, digit: u64, base: u64)
         requires small { digit < base }
         requires room { (self.old.weight * base ≤ 2 ^ 56) × (self.old.next < 2 ^ 63) }

@@ -20,9 +20,9 @@ Forced w false = w ≡ codes "plain"
 abbrev pub SaysQuestion : Question → Words → Type 0
 SaysQuestion q ws = (length ws ≡ 6) × Writes 10 ws 1 q.unit × Writes 10 ws 2 q.place × Writes 16 ws 3 q.class × Writes 10 ws 4 q.thrown × Forced (word ws 5) q.forced
 
--- the words say the personality, and none is left
+-- the words say the plan, and none is left
 abbrev pub SaysAll : Composed OwnedLeaf → Words → Type 0
-SaysAll personality ws = (rest : Words) × Says personality ws rest × (length rest ≡ 0)
+SaysAll plan ws = (rest : Words) × Says plan ws rest × (length rest ≡ 0)
 
 abbrev pub SaysStatement : Statement → Words → Type 0
 SaysStatement (Image bytes) ws = Begins ws (codes "image") × Bytes (vec_items bytes) (drop 1 ws)

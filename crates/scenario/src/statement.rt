@@ -29,7 +29,7 @@ fn bytes<'t>(heap: Global, words: &[&'t str]) -> Result<Vec<u8>, Wrong<'t>>
     Ok(found)
 }
 
-// A personality that takes all the words.
+// A plan that takes all the words.
 fn personality<'t>(heap: Global, words: &[&'t str]) -> Result<Composed<OwnedLeaf>, Wrong<'t>>
     ensures { IfOk result (λ plan. SaysAll plan words.now) }
 {

@@ -1,4 +1,4 @@
--- Which words say a personality, and which are left after them.
+-- Which words say a plan, and which are left after them.
 use Rattle.std.specs.Prelude.{◌≡◌, ℕ, ◌⊎◌, List, [], ◌∷◌, length, drop, vec_items, codes}
 use Rattle.personality.specs.declared.layers.Release.{Release}
 use Rattle.lsda.specs.declared.header.Layout.{Layout}
@@ -14,7 +14,7 @@ use Rattle.scenario_text.specs.Words.{Words, Begins, Writes}
 use Rattle.scenario_plan.specs.declared.read.Spoken.{Spoken}
 use Rattle.scenario_plan.specs.declared.read.Spoken.TheVariants as language
 
--- leaves that own their lists
+-- the leaves of plans, which own their lists
 abbrev pub OwnedLeaf : Type 0
 OwnedLeaf = AnyLeaf (Table OwnedTree) (Table Exact)
 

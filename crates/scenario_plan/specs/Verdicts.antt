@@ -1,4 +1,4 @@
--- The verdict of a leaf that owns its lists.
+-- The verdict of a plan's leaf.
 use Rattle.std.specs.Prelude.{nat_eq, vec_items}
 use Rattle.languages.specs.Types.{tree_class, caught_in, exact_class}
 use Rattle.languages.specs.declared.exact.Exact.{Exact}

@@ -1,4 +1,4 @@
-// Personalities as scenarios write them, read from words.
+// Plans: personalities as scenarios write them, which own their lists. They are read from words.
 #![tactic(auto)]
 
 pub mod read;

@@ -1,4 +1,4 @@
-// Personalities read from words, by recursive descent: each reader gives what it read, and the words that are left. The heap
+// Plans read from words, by recursive descent: each reader gives what it read, and the words that are left. The heap
 // and the words are two parameters: of a struct of both each reader would take the words apart and keep the heap.
 ghost use Rattle.std.specs.Prelude.{◌≡◌, drop, IfOk};
 ghost use Rattle.scenario_plan.specs.Says.{Lists, SaysLanguage, SaysRelease, SaysTable, SaysLeaf, Enclosed, Says, leaf_of};
@@ -19,6 +19,7 @@ use std::alloc::Global;
 // A leaf that owns its lists.
 pub type OwnedLeaf = Leaf<OwnedTree>;
 
+// The language that the words of a table say.
 #[derive(Drop)]
 pub enum Spoken {
     Tree(OwnedTree),
@@ -207,7 +208,7 @@ fn hosted<'w, 't>(
     })
 }
 
-// A personality in brackets. Inlined, so that each layer takes one small frame of the stack.
+// A plan in brackets. Inlined, so that each layer takes one small frame of the stack.
 #[inline(always)]
 #[cycle(enclosed_read_plan)]
 fn enclosed<'w, 't>(
@@ -222,7 +223,7 @@ fn enclosed<'w, 't>(
     Ok(read)
 }
 
-// The personality that the words begin with.
+// The plan that the words begin with.
 #[cycle(enclosed_read_plan)]
 pub fn read_plan<'w, 't>(
     heap: Global,
