@@ -58,7 +58,7 @@ module _ (bs : List ℕ) (h : Header) (function : ℕ) where
   turned k n r o false false e = e
 
   -- enough turns find the n-th call site of the list
-  found : (k at n : ℕ) (rs : List Site) → Numbers bs at rs → length bs ≤ at + k → search_from k at n ≡ Ok (nth_site n rs)
+  found : (k at n : ℕ) (rs : List (Read Site)) → Numbers bs at rs → length bs ≤ at + k → search_from k at n ≡ Ok (nth_site n rs)
   unfolding iterate
   found zero at n _ (sites.none _ g) l = refl
   found (suc k) at n _ (sites.none _ g) l = ap (λ x. then x (after k)) (look_none at n g)

@@ -77,9 +77,9 @@ ranged_facts bs h function at r e =
     (omega arith, omega arith)
 
 -- what a list of records gives at a place
-pick : ℕ → List Ranged → Option Site
+pick : ℕ → List (Read Ranged) → Option Site
 pick place [] = None
-pick place (r ∷ rs) = elim (ltb place r.from) [ true ↦ None | false ↦ elim (ltb place r.to) [ true ↦ Some r.site | false ↦ pick place rs ] ]
+pick place (r ∷ rs) = elim (ltb place r.value.from) [ true ↦ None | false ↦ elim (ltb place r.value.to) [ true ↦ Some r.value.site | false ↦ pick place rs ] ]
 
 module _ (bs : List ℕ) (h : Header) (function place : ℕ) where
   -- the search from an offset on, of at most k turns
@@ -101,7 +101,7 @@ module _ (bs : List ℕ) (h : Header) (function place : ℕ) where
   turned k r o false false e = e
 
   -- enough turns find what the list of records gives
-  found : (k at : ℕ) (rs : List Ranged) → Records bs h function at rs → length bs ≤ at + k → search_from k at ≡ Ok (pick place rs)
+  found : (k at : ℕ) (rs : List (Read Ranged)) → Records bs h function at rs → length bs ≤ at + k → search_from k at ≡ Ok (pick place rs)
   unfolding iterate pick
   found zero at _ (sites.none _ g) l = refl
   found (suc k) at _ (sites.none _ g) l = ap (λ x. then x (after k)) (look_none at g)
@@ -111,17 +111,17 @@ module _ (bs : List ℕ) (h : Header) (function place : ℕ) where
       let ih = found k r.next rs m (omega (arith, on.0)) in
       ap (λ x. then x (after k)) (look_more at r g e) ∙ turned k r (pick place rs) (ltb place r.value.from) (ltb place r.value.to) ih
 
-  sane : (at : ℕ) (rs : List Ranged) → Records bs h function at rs → (r : Ranged) → In r rs → r.from ≤ r.to
+  sane : (at : ℕ) (rs : List (Read Ranged)) → Records bs h function at rs → (r : Read Ranged) → In r rs → r.value.from ≤ r.value.to
   sane at _ (sites.none _ g) r i = elim i [ ]
   sane at _ (sites.more _ r rs g e m) _ here = (ranged_facts bs h function at r e).1
   sane at _ (sites.more _ s rs g e m) r (there i) = sane s.next rs m r i
 
 -- a list of records of which none ends before it begins
-abbrev Sane : List Ranged → Type 0
-Sane rs = (r : Ranged) → In r rs → r.from ≤ r.to
+abbrev Sane : List (Read Ranged) → Type 0
+Sane rs = (r : Read Ranged) → In r rs → r.value.from ≤ r.value.to
 
 -- later records of a rising list begin where an earlier one ends, or later
-later : (r : Ranged) (rs : List Ranged) → Rising (r ∷ rs) → Sane (r ∷ rs) → (s : Ranged) → In s rs → r.to ≤ s.from
+later : (r : Read Ranged) (rs : List (Read Ranged)) → Rising (r ∷ rs) → Sane (r ∷ rs) → (s : Read Ranged) → In s rs → r.value.to ≤ s.value.from
 later r _ (sites.one _) ok s i = elim i [ ]
 later r _ (sites.more _ s rs g up) ok _ here = g
 later r _ (sites.more _ t rs g up) ok s (there i) =
@@ -129,38 +129,38 @@ later r _ (sites.more _ t rs g up) ok s (there i) =
     let b = ok t (there here) in
     omega arith
 
-rest_rises : (r : Ranged) (rs : List Ranged) → Rising (r ∷ rs) → Rising rs
+rest_rises : (r : Read Ranged) (rs : List (Read Ranged)) → Rising (r ∷ rs) → Rising rs
 rest_rises r _ (sites.one _) = sites.none
 rest_rises r _ (sites.more _ s rs g up) = up
 
 module _ (place : ℕ) where
-  pick_held : (r : Ranged) (rs : List Ranged) → In r rs → Rising rs → Sane rs → Holds place r → pick place rs ≡ Some r.site
+  pick_held : (r : Read Ranged) (rs : List (Read Ranged)) → In r rs → Rising rs → Sane rs → Holds place r → pick place rs ≡ Some r.value.site
   unfolding pick
   pick_held r _ (here {xs = rs}) up ok hold =
-      let a : ltb place r.from ≡ false = grind (arith, hold.0) in
-      let b : ltb place r.to ≡ true = grind (arith, hold.1) in
+      let a : ltb place r.value.from ≡ false = grind (arith, hold.0) in
+      let b : ltb place r.value.to ≡ true = grind (arith, hold.1) in
       rw (a, pick, b)
   pick_held r _ (there {y = s} {xs = rs} i) up ok hold =
       let g = later s rs up ok r i in
       let w = ok s here in
-      let a : ltb place s.from ≡ false = grind (arith, hold.0) in
-      let b : ltb place s.to ≡ false = grind (arith, hold.0) in
+      let a : ltb place s.value.from ≡ false = grind (arith, hold.0) in
+      let b : ltb place s.value.to ≡ false = grind (arith, hold.0) in
       rw (a, pick, b) (pick_held r rs i (rest_rises s rs up) (λ x j. ok x (there j)) hold)
 
-  pick_unheld : (rs : List Ranged) → ((r : Ranged) → In r rs → Holds place r → ⊥) → pick place rs ≡ None
+  pick_unheld : (rs : List (Read Ranged)) → ((r : Read Ranged) → In r rs → Holds place r → ⊥) → pick place rs ≡ None
   unfolding pick
   pick_unheld [] free = refl
-  pick_unheld (r ∷ rs) free = go (cases_lt place r.from) (cases_lt place r.to) (pick_unheld rs (λ s i. free s (there i)))
+  pick_unheld (r ∷ rs) free = go (cases_lt place r.value.from) (cases_lt place r.value.to) (pick_unheld rs (λ s i. free s (there i)))
     where
-      go : (place < r.from) ⊎ (r.from ≤ place) → (place < r.to) ⊎ (r.to ≤ place) → pick place rs ≡ None → pick place (r ∷ rs) ≡ None
-      go (inl a) y ih = let b : ltb place r.from ≡ true = grind arith in rw (b, pick)
+      go : (place < r.value.from) ⊎ (r.value.from ≤ place) → (place < r.value.to) ⊎ (r.value.to ≤ place) → pick place rs ≡ None → pick place (r ∷ rs) ≡ None
+      go (inl a) y ih = let b : ltb place r.value.from ≡ true = grind arith in rw (b, pick)
       go (inr a) (inl c) ih = absurd (free r here (a, c))
       go (inr a) (inr c) ih =
-          let b : ltb place r.from ≡ false = grind arith in
-          let d : ltb place r.to ≡ false = grind arith in
+          let b : ltb place r.value.from ≡ false = grind arith in
+          let d : ltb place r.value.to ≡ false = grind arith in
           rw (b, pick, d) ih
 
-  one_held : (r s : Ranged) (rs : List Ranged) → In r rs → In s rs → Rising rs → Sane rs → Holds place r → Holds place s → r ≡ s
+  one_held : (r s : Read Ranged) (rs : List (Read Ranged)) → In r rs → In s rs → Rising rs → Sane rs → Holds place r → Holds place s → r ≡ s
   one_held r _ _ here here up ok p q = refl
   one_held r s _ (here {xs = rs}) (there i) up ok p q = absurd (omega (arith, later r rs up ok s i, p.1, q.0))
   one_held r s _ (there i) (here {xs = rs}) up ok p q = absurd (omega (arith, later s rs up ok r i, q.1, p.0))
@@ -183,6 +183,6 @@ module _ {L : Type 0} (native : ℕ) (caught : ℕ → ℕ → Bool) (t : Table 
       record {
         listed = λ s i hold. whole ∙ ap (λ o. verdict_of (verdict o)) (pick_held q.place s rs i up ok hold);
         unlisted = λ free. whole ∙ ap (λ o. verdict_of (verdict o)) (pick_unheld q.place rs free);
-        only = λ e s i hold. landed_goes_on bs t.start h (matching native caught q) q.forced s.site (sym (whole ∙ ap (λ o. verdict_of (verdict o)) (pick_held q.place s rs i up ok hold)) ∙ e);
+        only = λ e s i hold. landed_goes_on bs t.start h (matching native caught q) q.forced s.value.site (sym (whole ∙ ap (λ o. verdict_of (verdict o)) (pick_held q.place s rs i up ok hold)) ∙ e);
         one = λ s u i j. one_held q.place s u rs i j up ok;
       }

@@ -20,35 +20,35 @@ pub data In {A : Type 0} (x : A) : List A → Type 0 where
   there : {y : A} {xs : List A} → In x xs → In x (y ∷ xs)
 
 -- all records of a call-site table from an offset on, each of them read soundly; bs end where the call-site table does
-pub data Records (bs : List ℕ) (h : Header) (function : ℕ) : ℕ → List Ranged → Type 0 where
+pub data Records (bs : List ℕ) (h : Header) (function : ℕ) : ℕ → List (Read Ranged) → Type 0 where
   none : (at : ℕ) → length bs ≤ at → Records bs h function at []
-  more : (at : ℕ) (r : Read Ranged) (rs : List Ranged) → at < length bs → ranged_at bs h function at ≡ Ok r → Records bs h function r.next rs → Records bs h function at (r.value ∷ rs)
+  more : (at : ℕ) (r : Read Ranged) (rs : List (Read Ranged)) → at < length bs → ranged_at bs h function at ≡ Ok r → Records bs h function r.next rs → Records bs h function at (r ∷ rs)
 
 -- each record begins where the one before ends, or later
-pub data Rising : List Ranged → Type 0 where
+pub data Rising : List (Read Ranged) → Type 0 where
   none : Rising []
-  one : (r : Ranged) → Rising (r ∷ [])
-  more : (r s : Ranged) (rs : List Ranged) → r.to ≤ s.from → Rising (s ∷ rs) → Rising (r ∷ (s ∷ rs))
+  one : (r : Read Ranged) → Rising (r ∷ [])
+  more : (r s : Read Ranged) (rs : List (Read Ranged)) → r.value.to ≤ s.value.from → Rising (s ∷ rs) → Rising (r ∷ (s ∷ rs))
 
 -- a record's range holds a place
-abbrev pub Holds : ℕ → Ranged → Type 0
-Holds place r = (r.from ≤ place) × (place < r.to)
+abbrev pub Holds : ℕ → Read Ranged → Type 0
+Holds place r = (r.value.from ≤ place) × (place < r.value.to)
 
 -- what the records say of the question's place, and the verdict r that the leaf gave
-pub record Agrees {L : Type 0} (native : ℕ) (caught : ℕ → ℕ → Bool) (t : Table L) (q : Question) (bs : List ℕ) (h : Header) (rs : List Ranged) (r : Verdict) : Type 0 where
+pub record Agrees {L : Type 0} (native : ℕ) (caught : ℕ → ℕ → Bool) (t : Table L) (q : Question) (bs : List ℕ) (h : Header) (rs : List (Read Ranged)) (r : Verdict) : Type 0 where
   -- the record that holds the place gives the verdict
-  pub listed : (s : Ranged) → In s rs → Holds q.place s → r ≡ verdict_of (landed bs t.start h (matching native caught q) q.forced s.site)
+  pub listed : (s : Read Ranged) → In s rs → Holds q.place s → r ≡ verdict_of (landed bs t.start h (matching native caught q) q.forced s.value.site)
   -- a place that no record holds is unlisted
-  pub unlisted : ((s : Ranged) → In s rs → Holds q.place s → ⊥) → r ≡ unlisted q.forced
+  pub unlisted : ((s : Read Ranged) → In s rs → Holds q.place s → ⊥) → r ≡ unlisted q.forced
   -- and no other place is: it alone may get Terminate
-  pub only : r ≡ Terminate → (s : Ranged) → In s rs → Holds q.place s → ⊥
+  pub only : r ≡ Terminate → (s : Read Ranged) → In s rs → Holds q.place s → ⊥
   -- no two records hold it
-  pub one : (s u : Ranged) → In s rs → In u rs → Holds q.place s → Holds q.place u → s ≡ u
+  pub one : (s u : Read Ranged) → In s rs → In u rs → Holds q.place s → Holds q.place u → s ≡ u
 
 -- the verdict r of a table of ranges on a question to its unit, whatever its bytes, its header and its records are
 abbrev pub SitesLaw : {L : Type 0} → ℕ → (ℕ → ℕ → Bool) → Table L → List ℕ → Question → Verdict → Type 0
 SitesLaw native caught t image q r =
-    (bs : List ℕ) (h : Header) (rs : List Ranged)
+    (bs : List ℕ) (h : Header) (rs : List (Read Ranged))
     → t.layout ≡ Lsda
     → q.unit ≡ 0
     → table_bytes image t.start t.length ≡ Ok bs
@@ -58,20 +58,20 @@ SitesLaw native caught t image q r =
     → Agrees native caught t q bs h rs r
 
 -- all records of a numbered call-site table from an offset on, each of them read soundly
-pub data Numbers (bs : List ℕ) : ℕ → List Site → Type 0 where
+pub data Numbers (bs : List ℕ) : ℕ → List (Read Site) → Type 0 where
   none : (at : ℕ) → length bs ≤ at → Numbers bs at []
-  more : (at : ℕ) (r : Read Site) (rs : List Site) → at < length bs → numbered_at bs at ≡ Ok r → Numbers bs r.next rs → Numbers bs at (r.value ∷ rs)
+  more : (at : ℕ) (r : Read Site) (rs : List (Read Site)) → at < length bs → numbered_at bs at ≡ Ok r → Numbers bs r.next rs → Numbers bs at (r ∷ rs)
 
 -- the n-th call site, counted from 1
-abbrev pub nth_site : ℕ → List Site → Option Site
+abbrev pub nth_site : ℕ → List (Read Site) → Option Site
 nth_site n [] = None
-nth_site n (s ∷ ss) = elim (n == 0) [ true ↦ None | false ↦ elim (n == 1) [ true ↦ Some s | false ↦ nth_site (n - 1) ss ] ]
+nth_site n (s ∷ ss) = elim (n == 0) [ true ↦ None | false ↦ elim (n == 1) [ true ↦ Some s.value | false ↦ nth_site (n - 1) ss ] ]
 
 -- the verdict r of a numbered table on a question to its unit: that of the n-th record, where the place is a number n that is
 -- not negative; without such a record the place is unlisted
 abbrev pub NumbersLaw : {L : Type 0} → ℕ → (ℕ → ℕ → Bool) → Table L → List ℕ → Question → Verdict → Type 0
 NumbersLaw native caught t image q r =
-    (bs : List ℕ) (h : Header) (rs : List Site)
+    (bs : List ℕ) (h : Header) (rs : List (Read Site))
     → t.layout ≡ Sjlj
     → q.unit ≡ 0
     → q.place < 2147483648
