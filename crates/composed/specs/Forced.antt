@@ -21,6 +21,6 @@ either false v w h k = k
 
 pub harmless : {P : Type 0} (verdict : P → List ℕ → Question → Verdict) → ((p : P) (image : List ℕ) (q : Question) → q.forced ≡ true → Harmless (verdict p image q)) → (x : Composed P) (image : List ℕ) (q : Question) → q.forced ≡ true → Harmless (composed_verdict verdict x image q)
 harmless verdict law (Leaf p) image q f = law p image q f
-harmless verdict law (Pair' _ first second) image q f =
+harmless verdict law (Pair' _ first _ second) image q f =
     raised_harmless _ (either (q.unit % 2 == 0) _ _ (harmless verdict law first image (halved q) f) (harmless verdict law second image (halved q) f))
 harmless verdict law (Guest' _ below) image q f = raised_harmless _ (harmless verdict law below image (pressed q) refl)

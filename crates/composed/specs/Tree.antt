@@ -13,17 +13,17 @@ Meaning P = P → List ℕ → Question → Verdict
 -- over what a leaf means
 abbrev pub composed_verdict : {P : Type 0} → Meaning P → Meaning (Composed P)
 composed_verdict verdict (Leaf leaf) image q = verdict leaf image q
-composed_verdict verdict (Pair' _ first second) image q = pair_verdict (composed_verdict verdict first image) (composed_verdict verdict second image) q
+composed_verdict verdict (Pair' _ first _ second) image q = pair_verdict (composed_verdict verdict first image) (composed_verdict verdict second image) q
 composed_verdict verdict (Guest' _ below) image q = guest_verdict (composed_verdict verdict below image) q
 
 -- the tree is a pair of these two
 abbrev pub PairOf : {P : Type 0} → Composed P → Composed P → Composed P → Type 0
 PairOf (Leaf leaf) a b = ⊥
-PairOf (Pair' _ first second) a b = (first ≡ a) × (second ≡ b)
+PairOf (Pair' _ first _ second) a b = (first ≡ a) × (second ≡ b)
 PairOf (Guest' _ below) a b = ⊥
 
 -- the tree is a guest over this one
 abbrev pub GuestOf : {P : Type 0} → Composed P → Composed P → Type 0
 GuestOf (Leaf leaf) a = ⊥
-GuestOf (Pair' _ first second) a = ⊥
+GuestOf (Pair' _ first _ second) a = ⊥
 GuestOf (Guest' _ below) a = below ≡ a

@@ -4,15 +4,14 @@ ghost use Rattle.composed.specs.Tree.{composed_verdict, PairOf, GuestOf};
 ghost use Rattle.composed.specs.Forced.{harmless};
 
 use personality::interface::Personality;
-use personality::layers::{Guest, Pair};
 use personality::verdict::{Question, Verdict};
 use std::alloc::{AllocError, Global};
 
 #[derive(Drop)]
 pub enum Composed<P> {
     Leaf(P),
-    Pair(Box<Pair<Composed<P>, Composed<P>>>),
-    Guest(Box<Guest<Composed<P>>>),
+    Pair(Box<Composed<P>>, Box<Composed<P>>),
+    Guest(Box<Composed<P>>),
 }
 
 impl<P: Drop> Composed<P> {
@@ -24,14 +23,16 @@ impl<P: Drop> Composed<P> {
     ) -> Result<Composed<P>, AllocError>
         ensures { IfOk result (λ x. PairOf x first second) }
     {
-        Ok(Composed::Pair(Box::new(heap, Pair { first, second })?))
+        let first = Box::new(heap, first)?;
+        let second = Box::new(heap, second)?;
+        Ok(Composed::Pair(first, second))
     }
 
     // Asks the forced question below, whatever it is asked.
     pub fn guest(heap: Global, below: Composed<P>) -> Result<Composed<P>, AllocError>
         ensures { IfOk result (λ x. GuestOf x below) }
     {
-        Ok(Composed::Guest(Box::new(heap, Guest { below })?))
+        Ok(Composed::Guest(Box::new(heap, below)?))
     }
 }
 
@@ -40,11 +41,21 @@ impl<P: Personality> Personality for Composed<P> {
 
     ghost forced = { λ x image q f. harmless P.Personality.verdict P.Personality.forced x image q f };
 
+    // The text of Pair and Guest again: boxes of these two would take more than twice the stack for each layer when a
+    // tree is freed.
     fn ask(&self, image: &[u8], question: Question) -> Verdict {
         match self {
             Composed::Leaf(leaf) => leaf.ask(image, question),
-            Composed::Pair(pair) => pair.ask(image, question),
-            Composed::Guest(guest) => guest.ask(image, question),
+            Composed::Pair(first, second) => {
+                let half = question.halve();
+                let verdict = if question.unit % 2 == 0 {
+                    first.ask(image, half)
+                } else {
+                    second.ask(image, half)
+                };
+                verdict.pass_up()
+            }
+            Composed::Guest(below) => below.ask(image, question.press()).pass_up(),
         }
     }
 }

@@ -102,6 +102,8 @@ impl<L: Language> Personality for Table<L> {
     ghost forced = { λ s image q e. harmless L.Language.native (L.Language.caught s.language) s image q e };
 
     // A leaf has unit 0 alone. Release has the same test, and another verdict after it.
+    // Not inlined, so that a tree's `ask`, which calls itself, keeps nothing of a table's in its frame.
+    #[inline(never)]
     fn ask(&self, image: &[u8], question: Question) -> Verdict {
         if question.unit != 0 {
             return Verdict::Broken(Fault::at(Cause::NoUnit, 0));

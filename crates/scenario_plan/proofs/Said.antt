@@ -12,7 +12,7 @@ use Rattle.scenario_plan.specs.Says.{OwnedLeaf, Lists, SaysLanguage, SaysLeaf, E
 pub says_pair : (x a b : Composed OwnedLeaf) (ws next mid rest : Words) → PairOf x a b → Begins ws (codes "pair") → next ≡ drop 1 ws → Enclosed (Says a) next mid → Enclosed (Says b) mid rest → Says x ws rest
 says_pair (Leaf p) a b ws next mid rest made name e h k = absurd made
 says_pair (Guest' _ below) a b ws next mid rest made name e h k = absurd made
-says_pair (Pair' _ first second) a b ws next mid rest made name e h k =
+says_pair (Pair' _ first _ second) a b ws next mid rest made name e h k =
     let h' = subst (λ (w : Words). Enclosed (Says a) w mid) e h in
     (name, (mid, subst (λ (y : Composed OwnedLeaf). Enclosed (Says y) (drop 1 ws) mid) (sym made.0) h', subst (λ (y : Composed OwnedLeaf). Enclosed (Says y) mid rest) (sym made.1) k))
 
@@ -34,7 +34,7 @@ enclosed_by Said short ws rest h = omega (arith, short (drop 1 ws) h.1.0 h.1.1, 
 
 says_shorter : (p : Composed OwnedLeaf) (ws rest : Words) → Says p ws rest → length rest ≤ length ws
 says_shorter (Leaf p) ws rest h = leaf_shorter p ws rest h
-says_shorter (Pair' _ first second) ws rest h =
+says_shorter (Pair' _ first _ second) ws rest h =
     omega (arith, enclosed_by (Says first) (λ a b k. says_shorter first a b k) (drop 1 ws) h.1.0 h.1.1, enclosed_by (Says second) (λ a b k. says_shorter second a b k) h.1.0 rest h.1.2, length-drop 1 ws)
 says_shorter (Guest' _ below) ws rest h = omega (arith, enclosed_by (Says below) (λ a b k. says_shorter below a b k) (drop 1 ws) rest h.1, length-drop 1 ws)
 

@@ -58,5 +58,5 @@ Enclosed Said ws rest = Begins ws (codes "(") × ((after : Words) × Said (drop 
 
 abbrev pub Says : Composed OwnedLeaf → Words → Words → Type 0
 Says (Leaf p) ws rest = SaysLeaf p ws rest
-Says (Pair' _ first second) ws rest = Begins ws (codes "pair") × ((between : Words) × Enclosed (Says first) (drop 1 ws) between × Enclosed (Says second) between rest)
+Says (Pair' _ first _ second) ws rest = Begins ws (codes "pair") × ((between : Words) × Enclosed (Says first) (drop 1 ws) between × Enclosed (Says second) between rest)
 Says (Guest' _ below) ws rest = Begins ws (codes "guest") × Enclosed (Says below) (drop 1 ws) rest
