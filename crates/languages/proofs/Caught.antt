@@ -34,7 +34,7 @@ module _ (parents : List ℕ) where
   within_none (suc k) c t h e = grind arith
 
   -- one step up
-  caught_up : (c t : ℕ) → (t ≡ c → ⊥) → (parent_of parents t ≡ 0 → ⊥) → caught_in parents c t ≡ caught_in parents c (parent_of parents t)
+  pub caught_up : (c t : ℕ) → (t ≡ c → ⊥) → (parent_of parents t ≡ 0 → ⊥) → caught_in parents c t ≡ caught_in parents c (parent_of parents t)
   unfolding caught_in
   caught_up c zero h g = absurd (g parent_none)
   caught_up c (suc k) h g =

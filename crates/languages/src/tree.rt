@@ -25,7 +25,9 @@ impl Tree<'_> {
     {
         let index = usize::from(of).checked_sub(1)?;
         let parent = *self.parents.get(index)?;
-        (parent != 0 && parent < of).then_some(parent)
+        // One that is not below its type counts as 0, and 0 is none: one `then_some` over both tests is slower.
+        let parent = if parent < of { parent } else { 0 };
+        (parent != 0).then_some(parent)
     }
 }
 

@@ -81,7 +81,8 @@ pub fn decode_format(code: u8) -> Option<Format>
     *FORMATS.get(usize::from(code))?
 }
 
-// The number at an offset, in a format.
+// The number at an offset, in a format. Inlined, so that a search among records reads their fields in place.
+#[inline(always)]
 pub fn read_number(bytes: &[u8], at: usize, format: Format) -> Result<Number, Fault>
     ensures is { result ≡ number_at bytes.now format at }
     ensures within { IfOk result (Within (length bytes.now) format.signed) }

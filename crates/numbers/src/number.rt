@@ -134,24 +134,22 @@ impl Digits {
     }
 }
 
-#[tactic(auto, using(crate::proofs::Digit::digits_cut, crate::proofs::Digit::digits_none))]
+// Each byte by its offset: over a slice, whose length has to be worked out for each number, a search among numbered call
+// sites takes half as long again.
 fn read_digits(bytes: &[u8], at: usize) -> Result<Digits, Fault>
     ensures is { result ≡ digits_at bytes.now at limit at }
     ensures within { IfOk result (λ d. d.next ≤ length bytes.now) }
 {
-    let Some(rest) = bytes.get(at..) else {
-        return Err(Fault::at(Cause::CutShort, at));
-    };
     let mut digits = Digits::none(at);
-    for &byte in &rest[..rest.len().min(LIMIT)] {
+    for _ in 0..LIMIT {
+        let Some(&byte) = bytes.get(digits.next) else {
+            return Err(Fault::at(Cause::CutShort, at));
+        };
         digits.push(payload(byte), 128);
         if byte < 128 {
             digits.negative = sign_bit(byte);
             return Ok(digits);
         }
-    }
-    if rest.len() < LIMIT {
-        return Err(Fault::at(Cause::CutShort, at));
     }
     Err(Fault::at(Cause::TooLarge, at))
 }

@@ -16,7 +16,8 @@ fn number(word: &str, radix: u32) -> Result<u64, Misread>
     requires { (2 ≤ radix) × (radix ≤ 36) }
     ensures { Written radix (2 ^ 64) word.now result }
 {
-    if word.starts_with('+') {
+    // A byte, and not `starts_with`: so this function is short enough to be inlined, where the radix is a constant.
+    if let [b'+', ..] = word.as_bytes() {
         return Err(Misread::NotDigits);
     }
     u64::from_str_radix(word, radix).map_err(|e| match e.kind() {

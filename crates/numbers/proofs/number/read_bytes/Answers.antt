@@ -1,5 +1,6 @@
 use Rattle.std.proofs.Common.{◌≡◌, ◌+◌, ◌<◌, ◌≤◌, length, get_or, Ok, ap, ◌∙◌, arith}
 use Rattle.std.proofs.lemmas.Grind.{common_steps}
+use Rattle.numbers.specs.Digits.{bytes_at}
 use Rattle.numbers.proofs.Digit.{little_more, bytes_done, weight_more, with_sign}
 use Rattle.numbers.proofs.number.read_bytes.Goals as goal
 
@@ -22,4 +23,5 @@ returns-clause-is c =
     let all : i ≡ size = grind (arith, common_steps, c.and_then.ensures, c.get.ensures.lookup) in
     let inside : c.args.at + size ≤ length c.args.bytes.now = grind (arith, common_steps, c.and_then.ensures, c.get.ensures.lookup) in
     ap (λ d. Ok (with_sign c.top_bit.result d)) c.digits.view_is
-    ∙ bytes_done c.args.bytes.now c.args.width c.args.at size i c.loop-byte.digits c.top_bit.result c.bytes-size.ensures all inside c.loop-byte.invariant.weight c.loop-byte.invariant.next c.loop-byte.invariant.sum c.top_bit.ensures
+    ∙ bytes_done c.args.bytes.now c.args.at size i c.loop-byte.digits c.top_bit.result all inside c.loop-byte.invariant.weight c.loop-byte.invariant.next c.loop-byte.invariant.sum c.top_bit.ensures
+    ∙ ap (λ k. bytes_at c.args.bytes.now k c.args.at) c.bytes-size.ensures
