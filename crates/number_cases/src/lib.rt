@@ -38,7 +38,12 @@ mod tests {
 
     // Whether the bytes are refused for the cause, at their first byte.
     fn fails_by(case: Faulty, signed: bool) -> bool {
-        read_leb128(case.bytes, 0, signed) == Err(Fault::at(case.cause, 0))
+        read_leb128(case.bytes, 0, signed)
+            == Err(Fault {
+                cause: case.cause,
+                offset: 0,
+                layer: 0,
+            })
     }
 
     // Whether a format's number takes so many of the bytes and has the value.
