@@ -41,8 +41,8 @@ impl<P: Personality> Personality for Composed<P> {
 
     ghost forced = { λ x image q f. harmless P.Personality.verdict P.Personality.forced x image q f };
 
-    // The text of Pair and Guest again: boxes of these two would take more than twice the stack for each layer when a
-    // tree is freed.
+    // The text of Pair and Guest again: in a tree of boxes of these two each guest would take more than twice the stack
+    // when it is freed.
     fn ask(&self, image: &[u8], question: Question) -> Verdict {
         match self {
             Composed::Leaf(leaf) => leaf.ask(image, question),
